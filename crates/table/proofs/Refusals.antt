@@ -1,0 +1,73 @@
+-- The refusals' numbers tell the refusals apart, and a verdict's number tells the verdict. Assumes nothing.
+use mathlib.Core.Path.{_≡_, _∙_, refl, sym, ap}
+use mathlib.Core.Bool.{Bool, true, false}
+use Prim.Native.Nat.{ℕ, _<_}
+use native.Mathlib.Omega.{arith}
+use lib.Dec.{eqb, lit<}
+use Rattle.table.specs.Choice.{pick}
+use Rattle.table.specs.Refusals.{numberOf, Verdict, granted, refused, rung, numberIn}
+use Rattle.table.specs.declared.Refusal.{Refusal}
+use Rattle.table.specs.declared.Refusal.the-variants.{TableLength, NotNondecreasing, IndexBeyond, OutsideNeighbours, AboveLast, OutputLength, ParameterCount, TagLength, WrongSignature, ReservedNotZero, FunctionType, OutsideRange, OutsideUnit}
+
+-- the refusal of a number, from 1 to 13
+named : ℕ → Refusal
+named k =
+    pick (eqb k 1) TableLength
+    (pick (eqb k 2) NotNondecreasing
+    (pick (eqb k 3) IndexBeyond
+    (pick (eqb k 4) OutsideNeighbours
+    (pick (eqb k 5) AboveLast
+    (pick (eqb k 6) OutputLength
+    (pick (eqb k 7) ParameterCount
+    (pick (eqb k 8) TagLength
+    (pick (eqb k 9) WrongSignature
+    (pick (eqb k 10) ReservedNotZero
+    (pick (eqb k 11) FunctionType
+    (pick (eqb k 12) OutsideRange OutsideUnit)))))))))))
+
+named-number : (why : Refusal) → named (numberOf why) ≡ why
+unfolding named
+named-number TableLength = refl
+named-number NotNondecreasing = refl
+named-number IndexBeyond = refl
+named-number OutsideNeighbours = refl
+named-number AboveLast = refl
+named-number OutputLength = refl
+named-number ParameterCount = refl
+named-number TagLength = refl
+named-number WrongSignature = refl
+named-number ReservedNotZero = refl
+named-number FunctionType = refl
+named-number OutsideRange = refl
+named-number OutsideUnit = refl
+
+-- no two refusals have one number
+pub same-refusal : (a b : Refusal) → numberOf a ≡ numberOf b → a ≡ b
+same-refusal a b e = sym (named-number a) ∙ ap named e ∙ named-number b
+
+-- and none has the number 0
+pub number-above : (why : Refusal) → 0 < numberOf why
+number-above TableLength = lit< tt
+number-above NotNondecreasing = lit< tt
+number-above IndexBeyond = lit< tt
+number-above OutsideNeighbours = lit< tt
+number-above AboveLast = lit< tt
+number-above OutputLength = lit< tt
+number-above ParameterCount = lit< tt
+number-above TagLength = lit< tt
+number-above WrongSignature = lit< tt
+number-above ReservedNotZero = lit< tt
+number-above FunctionType = lit< tt
+number-above OutsideRange = lit< tt
+number-above OutsideUnit = lit< tt
+
+pub same-verdict : (v w : Verdict) → numberIn v ≡ numberIn w → v ≡ w
+same-verdict granted granted e = refl
+same-verdict granted (refused b) e = absurd (omega (arith, number-above b))
+same-verdict (refused a) granted e = absurd (omega (arith, number-above a))
+same-verdict (refused a) (refused b) e = ap refused (same-refusal a b e)
+
+-- a call is granted only where every rung holds
+pub rung-granted : (test : Bool) (why : Refusal) (rest : Verdict) → rung test why rest ≡ granted → (test ≡ true) × (rest ≡ granted)
+rung-granted true why rest e = (refl, e)
+rung-granted false why rest e = let z : _≡_ {A = ℕ} 0 1 = cc in absurd (omega arith)

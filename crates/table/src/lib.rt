@@ -1,0 +1,106 @@
+// What every crate of the box speaks of: positions and samples, the numbered refusals and the answers that
+// carry them, how long a table may be, and whether it is nondecreasing.
+ghost use mathlib.Core.Path.{_≡_};
+ghost use Rattle.table.specs.Refusals.{numberOf};
+ghost use Rattle.table.specs.Sizes.{within, sized};
+ghost use Rattle.table.specs.Order.{nondecreasing};
+
+pub mod inside;
+
+// A position, the input side of a curve. The lab calls it drive.
+#[repr(C)]
+pub struct Drive(pub u16);
+
+// A sample value, the output side of a curve. The lab calls it density.
+#[repr(C)]
+pub struct Density(pub u16);
+
+// Why a call is refused: a case for each row of document 01, in its order.
+pub enum Refusal {
+    TableLength,
+    NotNondecreasing,
+    IndexBeyond,
+    OutsideNeighbours,
+    AboveLast,
+    OutputLength,
+    ParameterCount,
+    TagLength,
+    WrongSignature,
+    ReservedNotZero,
+    FunctionType,
+    OutsideRange,
+    OutsideUnit,
+}
+
+// The answer of a call that only does something.
+pub enum Done {
+    Yes,
+    Refused(Refusal),
+}
+
+// The answer of a call that gives a sample.
+pub enum Looked {
+    At(Density),
+    Refused(Refusal),
+}
+
+// The answer of a call that gives a position.
+pub enum Sought {
+    At(Drive),
+    Refused(Refusal),
+}
+
+// Document 01's number of a refusal.
+pub fn number(why: Refusal) -> u32
+    ensures { λ r. ⌜ r ≡ numberOf why ⌝ }
+{
+    match why {
+        Refusal::TableLength => 1,
+        Refusal::NotNondecreasing => 2,
+        Refusal::IndexBeyond => 3,
+        Refusal::OutsideNeighbours => 4,
+        Refusal::AboveLast => 5,
+        Refusal::OutputLength => 6,
+        Refusal::ParameterCount => 7,
+        Refusal::TagLength => 8,
+        Refusal::WrongSignature => 9,
+        Refusal::ReservedNotZero => 10,
+        Refusal::FunctionType => 11,
+        Refusal::OutsideRange => 12,
+        Refusal::OutsideUnit => 13,
+    }
+}
+
+// Whether n is from low to high, both included.
+pub fn within(low: usize, high: usize, n: usize) -> bool
+    ensures { λ r. ⌜ r ≡ within low high n ⌝ }
+{
+    if n < low {
+        return false;
+    }
+    n <= high
+}
+
+// Whether a table may have n entries.
+pub fn sized(n: usize) -> bool
+    ensures { λ r. ⌜ r ≡ sized n ⌝ }
+{
+    within(1, 65536, n)
+}
+
+// Whether no entry is below the one before it.
+pub fn in_order(table: &[u16]) -> bool
+    ensures { λ r. ⌜ r ≡ nondecreasing (now (table .entry)) ⌝ }
+{
+    let mut i = 0;
+    let mut before: u16 = 0;
+    while i < table.len() {
+        let y = table[i];
+        if y < before {
+            return false;
+        }
+        before = y;
+        i += 1;
+    }
+    true
+}
