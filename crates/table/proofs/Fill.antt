@@ -12,10 +12,12 @@ use Rattle.table.specs.Fill.{tabulated}
 
 module _ {A : Type 0} (f : ℕ → A) where
   pub length-tabulated : (n : ℕ) → length (tabulated f n) ≡ n
+  unfolding tabulated
   length-tabulated zero = refl
   length-tabulated (suc n) = simp (length-append, length-tabulated n) (omega arith)
 
   pub getD-tabulated : (n i : ℕ) (d : A) → i < n → getD (tabulated f n) i d ≡ f i
+  unfolding tabulated
   getD-tabulated zero i d h = absurd (not-suc-le-zero h)
   getD-tabulated (suc n) i d h =
       ⊎-elim
@@ -29,12 +31,12 @@ module _ {A : Type 0} (f : ℕ → A) where
   filled i l = tabulated f i ++ drop i l
 
   pub filled-none : (l : List A) → filled 0 l ≡ l
-  unfolding filled
+  unfolding filled tabulated
   filled-none [] = refl
   filled-none (x ∷ l) = refl
 
   pub filled-more : (i : ℕ) (l : List A) (d : A) → i < length l → set (filled i l) i (f i) ≡ filled (i + 1) l
-  unfolding filled
+  unfolding filled tabulated
   filled-more i l d h =
       rw (add-one, drop-cons l i d h)
       (set-at (tabulated f i) (getD l i d) (drop (suc i) l) (f i) i (length-tabulated i)
@@ -46,5 +48,6 @@ module _ {A : Type 0} (f : ℕ → A) where
 
 -- two rules that agree below n give one list
 pub tabulated-same : {A : Type 0} (f g : ℕ → A) (n : ℕ) → ((i : ℕ) → i < n → f i ≡ g i) → tabulated f n ≡ tabulated g n
+unfolding tabulated
 tabulated-same f g zero e = refl
 tabulated-same f g (suc n) e = rw (tabulated-same f g n (λ i h. e i (omega arith)), e n (le-refl (suc n))) refl
