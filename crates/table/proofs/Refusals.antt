@@ -1,32 +1,38 @@
 -- The refusals' numbers tell the refusals apart, and a verdict's number tells the verdict. Assumes nothing.
 use mathlib.Core.Path.{_≡_, _∙_, refl, sym, ap}
 use mathlib.Core.Bool.{Bool, true, false}
-use Prim.Native.Nat.{ℕ, _<_}
+use mathlib.Core.List.{List, [], _∷_}
+use Prim.Native.Nat.{ℕ, _-_, _<_}
 use native.Mathlib.Omega.{arith}
-use lib.Dec.{eqb, lit<}
-use Rattle.table.specs.Choice.{pick}
+use lib.ListN.{getD}
+use lib.Dec.{lit<}
 use Rattle.table.specs.Refusals.{numberOf, Verdict, granted, refused, rung, numberIn}
 use Rattle.table.specs.declared.Refusal.{Refusal}
 use Rattle.table.specs.declared.Refusal.the-variants.{TableLength, NotNondecreasing, IndexBeyond, OutsideNeighbours, AboveLast, OutputLength, ParameterCount, TagLength, WrongSignature, ReservedNotZero, FunctionType, OutsideRange, OutsideUnit}
 
--- the refusal of a number, from 1 to 13
+refusals : List Refusal
+refusals =
+    TableLength
+    ∷ NotNondecreasing
+    ∷ IndexBeyond
+    ∷ OutsideNeighbours
+    ∷ AboveLast
+    ∷ OutputLength
+    ∷ ParameterCount
+    ∷ TagLength
+    ∷ WrongSignature
+    ∷ ReservedNotZero
+    ∷ FunctionType
+    ∷ OutsideRange
+    ∷ OutsideUnit
+    ∷ []
+
+-- the refusal of a number
 named : ℕ → Refusal
-named k =
-    pick (eqb k 1) TableLength
-    (pick (eqb k 2) NotNondecreasing
-    (pick (eqb k 3) IndexBeyond
-    (pick (eqb k 4) OutsideNeighbours
-    (pick (eqb k 5) AboveLast
-    (pick (eqb k 6) OutputLength
-    (pick (eqb k 7) ParameterCount
-    (pick (eqb k 8) TagLength
-    (pick (eqb k 9) WrongSignature
-    (pick (eqb k 10) ReservedNotZero
-    (pick (eqb k 11) FunctionType
-    (pick (eqb k 12) OutsideRange OutsideUnit)))))))))))
+named k = getD refusals (k - 1) TableLength
 
 named-number : (why : Refusal) → named (numberOf why) ≡ why
-unfolding named
+unfolding named refusals
 named-number TableLength = refl
 named-number NotNondecreasing = refl
 named-number IndexBeyond = refl

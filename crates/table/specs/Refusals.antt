@@ -26,7 +26,7 @@ pub data Verdict : Type 0 where
   refused : Refusal → Verdict
 
 -- a rung of the ladder: a test that must hold, the refusal where it does not, and the rungs after it.
--- So a call is refused by the first test, in the document's order, that fails.
+-- So a call is refused by the first test, in document 01's order, that fails.
 abbrev pub rung : Bool → Refusal → Verdict → Verdict
 rung true why rest = rest
 rung false why rest = refused why

@@ -2,7 +2,7 @@
 // carry them, how long a table may be, and whether it is nondecreasing.
 ghost use mathlib.Core.Path.{_≡_};
 ghost use Rattle.table.specs.Refusals.{numberOf};
-ghost use Rattle.table.specs.Sizes.{within, sized};
+ghost use Rattle.table.specs.Sizes.{within, sized, spanned, notAbove};
 ghost use Rattle.table.specs.Order.{nondecreasing};
 
 pub mod inside;
@@ -17,18 +17,31 @@ pub struct Density(pub u16);
 
 // Why a call is refused: a case for each row of document 01, in its order.
 pub enum Refusal {
+    // 1: the table's length is 0 or above 65,536; of a start, below 2 or above; of some calls, only above
     TableLength,
+    // 2: the table is not nondecreasing
     NotNondecreasing,
+    // 3: the index is beyond the table, or the gamma lookup's input at or above its N
     IndexBeyond,
+    // 4: a nudged entry would be below its left or above its right neighbour
     OutsideNeighbours,
+    // 5: the least-input inverse of a value above the last entry
     AboveLast,
+    // 6: the output buffer is not exactly as long as needed
     OutputLength,
+    // 7: a parametric curve has 1, 3, 4, 5 or 7 parameters
     ParameterCount,
+    // 8: a tag of fewer than 12 bytes, or of the wrong total length
     TagLength,
+    // 9: another tag's signature
     WrongSignature,
+    // 10: a reserved byte of a tag is not zero
     ReservedNotZero,
+    // 11: a parametric tag's function type is above 4
     FunctionType,
+    // 12: a number that says how much is outside its range: the gamma lookup's N or depth, the length of an inverted or a passthrough table
     OutsideRange,
+    // 13: the input of `lut_interp_linear` is not from 0 to 1
     OutsideUnit,
 }
 
@@ -81,11 +94,25 @@ pub fn within(low: usize, high: usize, n: usize) -> bool
     n <= high
 }
 
-// Whether a table may have n entries.
+// Whether a table may have n entries, for most calls.
 pub fn sized(n: usize) -> bool
     ensures { λ r. ⌜ r ≡ sized n ⌝ }
 {
     within(1, 65536, n)
+}
+
+// Whether a table may have n entries where the first and the last must be two.
+pub fn spanned(n: usize) -> bool
+    ensures { λ r. ⌜ r ≡ spanned n ⌝ }
+{
+    within(2, 65536, n)
+}
+
+// Whether a table may have n entries where it may be empty.
+pub fn not_above(n: usize) -> bool
+    ensures { λ r. ⌜ r ≡ notAbove n ⌝ }
+{
+    n <= 65536
 }
 
 // Whether no entry is below the one before it.
