@@ -1,0 +1,4 @@
+pub mod Value
+pub mod Operations
+pub mod Closest
+pub mod Units
