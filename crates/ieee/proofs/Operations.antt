@@ -4,7 +4,6 @@ use Prim.Native.Nat.{ℕ, _+_, _*_, _<_}
 use native.Mathlib.Nat.{lt-irrefl, zero-mul, mul-comm, mul-assoc, mul-left-comm, mul-pos, mul-mul-mul-comm, add-mul}
 use native.Mathlib.Omega.{arith}
 use mathlib.Core.Bool.{Bool, true, false, cond}
-use lib.IntN.{ℤ}
 use lib.Dec.{T, eqb, eqb→eq, not-T}
 use lib.Ieee.{Float, nan, inf, fin, Format, unlike, up, down, round, add, sum, mul, div}
 use lib.Ieee.Fits.{up-pos, down-pos}

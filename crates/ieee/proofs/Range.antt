@@ -1,25 +1,25 @@
 -- Numbers that are not below zero, and at most a fraction p / q (`Upto p q`): what products, quotients and sums of such numbers can be. Assumes nothing.
 use mathlib.Core.Path.{_≡_, refl, sym, ap, ap₂, _∙_, subst}
 use Prim.Native.Nat.{ℕ, zero, suc, _+_, _-_, _*_, _^_, _≤_, _<_, zero-le}
-use native.Mathlib.Nat.{le-refl, le-trans, add-le-add, le-add-left, add-mul, le-of-eq, le-of-lt, lt-irrefl, not-le-of-lt, zero-lt-suc, zero-mul, mul-zero, mul-one, one-mul, mul-comm, mul-assoc, mul-left-comm, mul-right-comm, mul-le-mul-right, mul-pos, le-of-mul-le-mul-right}
+use native.Mathlib.Nat.{le-refl, le-trans, add-le-add, le-add-left, add-mul, le-of-eq, lt-irrefl, not-le-of-lt, zero-lt-suc, zero-mul, mul-one, mul-comm, mul-assoc, mul-left-comm, mul-right-comm, mul-le-mul-right, mul-le-mul-left, one-mul, mul-pos, le-of-mul-le-mul-right}
 use native.Mathlib.Omega.{arith}
 use mathlib.Core.Bool.{Bool, true, false, not, _&&_, _||_, cond, true≢false}
 use lib.IntN.{ℤ, pos}
-use lib.Dec.{T, not-T, ltb, eqb, le→leb, lt→ltb, ltb→lt, eqb→eq, lit≤}
+use lib.Dec.{T, not-T, ltb, eqb, le→leb, lt→ltb, lit≤}
 use lib.Pow.{pow-pos}
 use borrow.Author.Tests.{lt-ltb, le-ltb, ltb-true, ltb-false}
-use lib.Ieee.{Float, nan, inf, fin, Format, binary32, binary64, prec, emax, low, unlike, up, down, lt, le, eq, round, add, sum, mul, div, ofInt, inFloat, isNan}
+use lib.Ieee.{Float, nan, inf, fin, Format, binary32, binary64, prec, emax, low, hid, up, down, lt, le, round, add, sum, mul, div, ofInt, inFloat, isNan}
 use lib.Ieee.Fits.{up-pos, down-pos, and-i, and-l, and-r}
 use lib.Ieee.Bits.{is-true, is-false}
 use lib.Ieee.Back.{round-whole}
 use lib.Ieee.Exact.{HasValue, round-exact}
 use lib.Ieee.Order.{round-mono, le-of-values}
-use lib.Ieee.Positive.{num, den, den-pos}
-use lib.Ieee.Scale.{grid, finite, round-same}
-use Rattle.ieee.specs.Range.{whole, nought, one, within}
+use lib.Ieee.Positive.{num, den}
+use lib.Ieee.Scale.{grid, overflow, finite, round-same}
+use Rattle.ieee.specs.Range.{whole, nought, within}
 use Rattle.ieee.proofs.Tests.{or-left, or-le, negative-under, negative-not-over}
-use Rattle.ieee.proofs.Operations.{mul-of, div-of, add-of, sign-kept}
-use Rattle.ieee.proofs.Units.{round-val-of, round-finite}
+use Rattle.ieee.proofs.Operations.{mul-of, div-of, add-of}
+use Rattle.ieee.proofs.Units.{round-val-of, round-finite, grid-over}
 
 -- finite, and not below zero: -0.0 is in
 abbrev pub counts : Float → Bool
@@ -227,3 +227,33 @@ pub ratio-within : (f : Format) (p q : ℕ) → p ≤ q → 0 < q → q ≤ 6553
 ratio-within f p q h Q K =
     within-of 1 (div f (ofInt f (pos p)) (ofInt f (pos q)))
     (div-upto f (ofInt f (pos p)) (ofInt f (pos q)) p 1 q 1 1 1 (pow-pos 0) (pow-pos 0) Q (pow-pos 0) (whole-of f p (le-trans h K)) (whole-of f q K) (whole-held f 1 (lit≤ tt)) (omega arith))
+
+-- ---- a quotient of whole numbers is at most one part in 2 ^ prec too large
+value-upto : (x : Float) (g c p q : ℕ) → 0 < c → HasValue x false g c → g * q ≤ p * c → Upto p q x
+value-upto nan g c p q C v h = absurd v
+value-upto (inf s) g c p q C v h = absurd v
+value-upto (fin true m e) g c p q C v h = absurd (true≢false (v .0))
+value-upto (fin false m e) g c p q C v h = (
+  tt,
+  le-of-mul-le-mul-right
+      (le-trans (le-of-eq (mul-right-comm (m * up e) q c ∙ ap (λ (z : ℕ). z * q) (v .1) ∙ mul-right-comm g (down e) q)) (le-trans (mul-le-mul-right (down e) h) (le-of-eq (mul-right-comm p c (down e))))) C,
+)
+
+enough : (f : Format) → hid f * 65536 ≤ 2 ^ low f
+enough binary32 = lit≤ tt
+enough binary64 = lit≤ tt
+
+pub div-close : (f : Format) (a b : ℕ) → 0 < a → 0 < b → a ≤ 65536 → b ≤ 65536 → Upto (a * (2 ^ prec f + 1)) (b * 2 ^ prec f) (div f (ofInt f (pos a)) (ofInt f (pos b)))
+div-close f a b A B a' b' =
+    let is : div f (ofInt f (pos a)) (ofInt f (pos b)) ≡ round f false a b =
+    div-of f (ofInt f (pos a)) (ofInt f (pos b)) false false a 1 b 1 (pow-pos 0) (pow-pos 0) B (whole-of f a a') (whole-of f b b') ∙ ap₂ (round f false) (mul-one a) (mul-one b) in
+    let u : grid f a b < overflow f =
+    round-finite f a b (round f false a 1) (has-finite (round f false a 1) false a 1 (whole-held f a a')) (round-mono f a b a 1 B (pow-pos 0) (le-trans (le-of-eq (mul-one a)) (le-mul a b B))) in
+    let g : grid f a b * b * 2 ^ prec f ≤ a * 2 ^ low f * (2 ^ prec f + 1) =
+    grid-over f a b B (le-trans (mul-le-mul-left (hid f) b') (le-trans (enough f) (le-trans (le-of-eq (sym (one-mul (2 ^ low f)))) (mul-le-mul-right (2 ^ low f) A)))) in
+    subst (Upto (a * (2 ^ prec f + 1)) (b * 2 ^ prec f)) (sym is)
+    (value-upto (round f false a b) (grid f a b) (2 ^ low f) (a * (2 ^ prec f + 1)) (b * 2 ^ prec f) (pow-pos (low f)) (round-val-of f false a b u)
+    (le-trans (le-of-eq (sym (mul-assoc (grid f a b) b (2 ^ prec f)))) (le-trans g (le-of-eq (mul-right-comm a (2 ^ low f) (2 ^ prec f + 1))))))
+  where
+    le-mul : (a b : ℕ) → 0 < b → a ≤ a * b
+    le-mul a b h = le-trans (le-of-eq (sym (mul-one a))) (mul-le-mul-left a h)

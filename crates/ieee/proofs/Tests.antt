@@ -1,11 +1,11 @@
 -- What a program's tests and constants say: `x != x`, the comparisons with 0.0, and the patterns of 0.0 and 1.0. Assumes nothing.
 use mathlib.Core.Path.{_≡_, refl, sym, ap, _∙_, subst}
 use Prim.Native.Nat.{ℕ, suc, _+_, _*_, _≤_, _<_}
-use native.Mathlib.Nat.{le-of-lt, le-of-eq, lt-irrefl, not-le-of-lt, zero-lt-suc, zero-mul, mul-one, mul-pos}
+use native.Mathlib.Nat.{le-of-lt, le-of-eq, lt-irrefl, not-le-of-lt, zero-lt-suc, zero-mul, mul-pos}
 use native.Mathlib.Omega.{arith}
 use mathlib.Core.Bool.{Bool, true, false, not, _&&_, _||_}
 use lib.IntN.{ℤ}
-use lib.Dec.{T, ltb, eqb, ltb→lt, lt→ltb, eqb→eq, eqb-refl}
+use lib.Dec.{T, ltb, eqb, ltb→lt, lt→ltb, eqb→eq}
 use lib.Pow.{pow-pos}
 use lib.Ieee.{Float, nan, inf, fin, Format, binary32, binary64, emax, hid, up, down, isNan, ne, lt, le, ofBits}
 use lib.Ieee.Compare.{differs-from-itself, nan-differs}

@@ -1,14 +1,14 @@
 -- Arithmetic with a zero of either sign, and a number with itself. Assumes nothing.
 use mathlib.Core.Path.{_≡_, refl, sym, ap, ap₂, _∙_, subst}
-use Prim.Native.Nat.{ℕ, zero, suc, _+_, _-_, _*_, _<_}
-use native.Mathlib.Nat.{mul-pos, mul-one, mul-zero, zero-mul, mul-right-comm, mul-assoc, mul-comm, zero-lt-suc, le-refl, sub-self, add-zero, sub-zero, lt-irrefl}
+use Prim.Native.Nat.{ℕ, suc, _+_, _-_, _*_, _<_}
+use native.Mathlib.Nat.{mul-pos, mul-one, mul-zero, zero-mul, mul-right-comm, mul-assoc, zero-lt-suc, le-refl, sub-self, add-zero, sub-zero}
 use native.Mathlib.Omega.{arith}
 use mathlib.Core.Bool.{Bool, true, false, not, _&&_, _||_, Bool·beq, cond}
 use lib.IntN.{ℤ, pos}
 use lib.Dec.{T, eqb, ltb, eqb-refl}
 use lib.Pow.{pow-pos}
 use borrow.Author.Tests.{lt-ltb, le-ltb}
-use lib.Ieee.{Float, nan, inf, fin, Format, up, down, unlike, fits, round, add, sub, mul, neg, sum, lt, eq, le}
+use lib.Ieee.{Float, nan, inf, fin, Format, up, down, unlike, fits, round, add, sub, mul, sum, lt, eq, le}
 use lib.Ieee.Fits.{up-pos, down-pos, and-i}
 use lib.Ieee.Scale.{finite}
 use Rattle.ieee.specs.Range.{nought}

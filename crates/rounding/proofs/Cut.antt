@@ -1,21 +1,21 @@
 -- Floor and ceil: what cutting a float to an integer asks and gives, the test that tells ceil from floor, and the laws that callers use.
 -- Assumes nothing.
-use mathlib.Core.Path.{_≡_, refl, sym, ap, ap₂, _∙_, subst}
+use mathlib.Core.Path.{_≡_, refl, sym, ap, _∙_, subst}
 use Prim.Native.Nat.{ℕ, zero, suc, _+_, _-_, _*_, _/_, _%_, _^_, _≤_, _<_, min, zero-le}
-use native.Mathlib.Nat.{le-trans, le-of-eq, lt-of-le-of-lt, zero-div, zero-mul, mul-one, one-mul, mul-comm, mul-right-comm, add-mul, suc-mul, mul-pos, mul-div-cancel, div-lt-iff-lt-mul, div-le-of-le-mul, div-add-mod', mod-lt, lt-of-mul-lt-mul-right, le-of-mul-le-mul-right, mul-lt-mul-of-pos-right, mul-le-mul-right}
+use native.Mathlib.Nat.{le-of-suc-le-suc, le-trans, le-of-eq, lt-of-le-of-lt, zero-div, zero-mul, mul-one, one-mul, mul-comm, mul-right-comm, add-mul, suc-mul, mul-pos, mul-div-cancel, div-lt-iff-lt-mul, div-le-of-le-mul, div-add-mod', mod-lt, mul-lt-mul-of-pos-right, mul-le-mul-right}
 use native.Mathlib.Omega.{arith}
-use mathlib.Core.Bool.{Bool, true, false, not, cond, true≢false}
-use lib.IntN.{pos}
+use mathlib.Core.Bool.{Bool, true, false, cond, true≢false}
+use lib.IntN.{pos, negsuc}
 use lib.Dec.{T, ltb, lt→ltb, lit<, lit≤}
 use lib.Arith.{digits-div}
 use lib.Pow.{pow-pos}
 use borrow.Author.Tests.{lt-ltb, le-ltb, ltb-true, ltb-false}
-use lib.Ieee.{Float, nan, inf, fin, Format, up, down, lt, toUnsigned, ofInt}
+use lib.Ieee.{Float, nan, inf, fin, Format, binary64, add, up, down, lt, toUnsigned, ofInt}
 use lib.Ieee.Fits.{down-pos}
-use lib.Ieee.Exact.{HasValue}
+use lib.Ieee.Exact.{HasValue, round-exact}
 use lib.Ieee.Positive.{num, den, den-pos}
 use Rattle.ieee.specs.Range.{within}
-use Rattle.ieee.proofs.Range.{counts, Upto, upto-of, whole-of, in-float}
+use Rattle.ieee.proofs.Range.{counts, Upto, Held, upto-of, within-of, add-upto, whole-of}
 use Rattle.rounding.specs.Cut.{floor, ceil, FloorPromise, CeilPromise}
 
 -- ---- bounds
@@ -59,6 +59,35 @@ module _ (x : Float) (s : Bool) (k : ℕ) (h : HasValue x s k 1) where
     where
       below : (d : ℕ) → 0 < d → d - 1 < d
       below d D = omega arith
+
+-- ---- x + 0.5 of an x up to 65535.25 in f64, as rounding half up has it: no more than 65535 comes out
+abbrev pub half : Float
+half = fin false 1 (negsuc 0)
+
+quarters : Held binary64 262143 4
+quarters = round-exact binary64 false 262143 4 262143 1072 (lit< tt) (lit< tt) (lit< tt) refl
+
+module _ (x : Float) (u : Upto 262141 4 x) where
+  sum-upto : Upto 262143 4 (add binary64 x half)
+  sum-upto = add-upto binary64 x half 262141 4 1 2 262143 4 (lit< tt) (lit< tt) (lit< tt) u (refl, refl) quarters (lit≤ tt)
+
+  pub half-within : T (within 65536 (add binary64 x half))
+  half-within = let y = add binary64 x half in within-of 65536 y (sum-upto .0, go (num y) (den y) (sum-upto .1))
+    where
+      go : (n d : ℕ) → n * 4 ≤ 262143 * d → n * 1 ≤ 65536 * d
+      go n d h = omega arith
+
+  pub half-floor : floor (add binary64 x half) ≤ 65535
+  half-floor = let y = add binary64 x half in le-of-suc-le-suc (floor-below y 65536 (go (num y) (den y) (den-pos y) (sum-upto .1)))
+    where
+      go : (n d : ℕ) → 0 < d → n * 4 ≤ 262143 * d → n < 65536 * d
+      go n d D h = omega arith
+
+pub upto-quarter : (x : Float) → T (within 65535 x) → Upto 262141 4 x
+upto-quarter x t = let u = upto-of 65535 x t in (u .0, go (num x) (den x) (u .1))
+  where
+    go : (n d : ℕ) → n * 1 ≤ 65535 * d → n * 4 ≤ 262141 * d
+    go n d h = omega arith
 
 -- ---- cutting to an unsigned integer
 asked : (x : Float) (k : ℕ) → T (counts x) → num x < 2 ^ k * den x → T (lt (fin true 1 (pos 0)) x) × T (lt x (fin false 1 (pos k)))

@@ -2,11 +2,11 @@
 -- through them. Assumes nothing.
 use mathlib.Core.Path.{_≡_, refl, sym, ap, ap₂, _∙_, subst}
 use mathlib.Core.Bool.{Bool, true, false, not, _&&_, cond, true≢false}
-use mathlib.Core.Logic.{_⊎_, inl, inr}
+use mathlib.Core.Logic.{inl, inr}
 use Prim.Native.Nat.{ℕ, zero, suc, _+_, _-_, _*_, _/_, _%_, _^_, _≤_, _<_, zero-le}
 use native.Mathlib.Nat.{le-trans, le-of-suc-le-suc, le-add-right, lt-of-lt-of-le, eq-or-lt-of-le, suc-sub-suc, one-mul, mul-assoc, mul-le-mul-left, mul-le-mul, div-lt-iff-lt-mul, mod-lt}
 use native.Mathlib.Omega.{arith}
-use lib.Dec.{T, leb, eqb, eqb→eq, not-T, lit<, lit≤}
+use lib.Dec.{T, leb, eqb, eqb→eq, lit<, lit≤}
 use lib.Arith.{le→nltb}
 use lib.Pow.{pow-add, pow-pos, pow-mono, shl-exact}
 use borrow.Author.Tests.{ne-eqb}

@@ -1,10 +1,10 @@
 -- The lesser of two floats and a float's size, by a program's tests. Assumes nothing.
 use mathlib.Core.Path.{_≡_, refl, sym, ap, ap₂, _∙_, subst}
-use Prim.Native.Nat.{ℕ, zero, suc, _+_, _*_, _≤_, _<_}
-use native.Mathlib.Nat.{le-of-eq, zero-mul, one-mul, mul-one, zero-add, mul-pos}
+use Prim.Native.Nat.{ℕ, zero, suc, _+_, _*_}
+use native.Mathlib.Nat.{le-of-eq, one-mul, mul-one, mul-pos}
 use native.Mathlib.Omega.{arith}
-use mathlib.Core.Bool.{Bool, true, false, not, _||_, cond, true≢false, false≢true}
-use lib.IntN.{ℤ, pos}
+use mathlib.Core.Bool.{Bool, true, false, not, _||_, cond, true≢false}
+use lib.IntN.{pos}
 use lib.Dec.{T}
 use lib.Pow.{pow-pos}
 use lib.Ieee.{Float, nan, inf, fin, Format, up, down, fits, isNan, lt, le, eq, ne, sub, ofBits}
@@ -14,7 +14,7 @@ use Rattle.ieee.proofs.Range.{within-of, outside-is}
 use lib.Ieee.Fits.{down-pos}
 use Rattle.ieee.specs.Range.{nought, whole, within}
 use Rattle.ieee.proofs.Tests.{differs-is-nan, bits-nought, negative-under, positive-not-under, or-left}
-use Rattle.ieee.proofs.Zero.{null, zero-is-null, zero-plus-zero, zeros-ordered}
+use Rattle.ieee.proofs.Zero.{zero-is-null, zero-plus-zero, zeros-ordered}
 use Rattle.ieee.proofs.Value.{round-id}
 use Rattle.ieee.proofs.Operations.{add-of}
 use Rattle.rounding.specs.Size.{least, abs, MinPromise, AbsPromise}

@@ -1,6 +1,6 @@
 -- The lesser of two floats, and a float without its sign. Definitions only.
 use mathlib.Core.Path.{_≡_}
-use mathlib.Core.Bool.{Bool, false, _||_, cond}
+use mathlib.Core.Bool.{false, _||_, cond}
 use lib.Ieee.{Float, nan, inf, fin, isNan, lt}
 
 -- x where it is above the bound, or a NaN, reads as the bound

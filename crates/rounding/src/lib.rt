@@ -1,9 +1,8 @@
 // Rounding that Rattle's `as` leaves to the program: an f64 to the nearest f32, fixed-point numbers to f32, and the lesser and the size of floats.
 // Floor and ceil, which ask for a number in range, stand in `inside`.
-ghost use Prim.Native.Nat.{ℕ, _+_, _<_, _≤_};
+ghost use Prim.Native.Nat.{_+_, _<_, _≤_};
 ghost use mathlib.Core.Path.{_≡_};
 ghost use mathlib.Core.Bool.{Bool, cond};
-ghost use lib.IntN.{pos};
 ghost use lib.Ieee.{binary32, binary64, ofBits, ofFields};
 ghost use lib.Ieee.Nearest.{closest};
 ghost use Rattle.rounding.specs.Nearest.{narrow, NarrowPromise, U8Fixed8Promise, S15Fixed16Promise};

@@ -6,7 +6,7 @@ use mathlib.Core.Bool.{true, false, not}
 use Prim.Native.Nat.{ℕ}
 use native.Mathlib.Nat.{zero-add}
 use lib.Dec.{T}
-use lib.Ieee.{Float, binary32, binary64, fits, nanBits, ofBits, toBits}
+use lib.Ieee.{binary32, binary64, fits, nanBits, ofBits, toBits}
 use Rattle.ieee.proofs.Tests.{not-nan}
 use Rattle.rounding.specs.Nearest.{NarrowPromise}
 use Rattle.rounding.proofs.Narrow.{fields-asked, narrowed, narrow-nan, no-nan-pattern}
