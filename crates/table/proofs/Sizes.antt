@@ -1,0 +1,31 @@
+-- The test that a number is from low to high, and the two orders that it stands for, each from the other. Assumes nothing.
+use mathlib.Core.Path.{_≡_}
+use mathlib.Core.Bool.{Bool, true, false}
+use Prim.Native.Nat.{ℕ, _≤_, _<_}
+use borrow.Author.Tests.{leb-true, le-leb, lt-leb}
+use lib.Dec.{leb}
+use Rattle.table.specs.Choice.{both}
+use Rattle.table.specs.Sizes.{within}
+use Rattle.table.proofs.Choice.{both-left, both-right}
+
+module _ (low high n : ℕ) where
+  pub within-low : within low high n ≡ true → low ≤ n
+  unfolding within
+  within-low e = leb-true low n (both-left (leb low n) (leb n high) e)
+
+  pub within-high : within low high n ≡ true → n ≤ high
+  unfolding within
+  within-high e = leb-true n high (both-right (leb low n) (leb n high) e)
+
+  pub is-within : low ≤ n → n ≤ high → within low high n ≡ true
+  unfolding within
+  is-within l h = simp (le-leb low n l, le-leb n high h)
+
+  pub below-within : n < low → within low high n ≡ false
+  unfolding within
+  below-within l = simp (lt-leb low n l)
+
+  -- past the first comparison the second decides
+  pub within-is : low ≤ n → within low high n ≡ leb n high
+  unfolding within
+  within-is l = simp (le-leb low n l)

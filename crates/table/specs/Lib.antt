@@ -1,0 +1,7 @@
+-- What the crates' promises are written in.
+pub mod Choice
+pub mod Refusals
+pub mod Answers
+pub mod Sizes
+pub mod Order
+pub mod Fill
