@@ -16,7 +16,7 @@ use lib.Ieee.Exact.{HasValue, round-exact}
 use lib.Ieee.Order.{round-mono, le-of-values}
 use lib.Ieee.Positive.{num, den}
 use lib.Ieee.Scale.{grid, overflow, finite, round-same}
-use Rattle.ieee.specs.Range.{whole, nought, within}
+use Rattle.ieee.specs.Range.{whole, nought, upto}
 use Rattle.ieee.proofs.Tests.{or-left, or-le, negative-under, negative-not-over}
 use Rattle.ieee.proofs.Operations.{mul-of, div-of, add-of}
 use Rattle.ieee.proofs.Units.{round-val-of, round-finite, grid-over}
@@ -32,29 +32,29 @@ counts (fin true (suc m) e) = false
 abbrev pub Upto : ℕ → ℕ → Float → Type 0
 Upto p q x = T (counts x) × (num x * q ≤ p * den x)
 
--- ---- `within k` by tests is `Upto k 1`
+-- ---- the test `upto k` and the fact `Upto k 1`, each from the other
 whole-value : (k : ℕ) → HasValue (whole k) false k 1
 whole-value k = (refl, mul-one (k * 1))
 
 zero-upto : (p q : ℕ) (e : ℤ) → 0 * up e * q ≤ p * down e
 zero-upto p q e = subst (λ (z : ℕ). z * q ≤ p * down e) (sym (zero-mul (up e))) (subst (λ (z : ℕ). z ≤ p * down e) (sym (zero-mul q)) zero-le)
 
-pub upto-of : (k : ℕ) (x : Float) → T (within k x) → Upto k 1 x
-unfolding within le
-upto-of k nan t = absurd t
-upto-of k (inf true) t = absurd t
-upto-of k (inf false) t = absurd t
-upto-of k (fin true zero e) t = (tt, zero-upto k 1 e)
-upto-of k (fin true (suc m) e) t = absurd (negative-not-over m e (and-l (le nought (fin true (suc m) e)) (le (fin true (suc m) e) (whole k)) t))
-upto-of k (fin false m e) t =
+pub upto-fact : (k : ℕ) (x : Float) → T (upto k x) → Upto k 1 x
+unfolding upto le
+upto-fact k nan t = absurd t
+upto-fact k (inf true) t = absurd t
+upto-fact k (inf false) t = absurd t
+upto-fact k (fin true zero e) t = (tt, zero-upto k 1 e)
+upto-fact k (fin true (suc m) e) t = absurd (negative-not-over m e (and-l (le nought (fin true (suc m) e)) (le (fin true (suc m) e) (whole k)) t))
+upto-fact k (fin false m e) t =
     (tt, le-trans (or-le (m * up e * 1) (k * 1 * down e) true (and-r (le nought (fin false m e)) (le (fin false m e) (whole k)) t)) (le-of-eq (ap (λ (z : ℕ). z * down e) (mul-one k))))
 
-pub within-of : (k : ℕ) (x : Float) → Upto k 1 x → T (within k x)
-unfolding within le
-within-of k nan h = absurd (h .0)
-within-of k (inf s) h = absurd (h .0)
-within-of k (fin true (suc m) e) h = absurd (h .0)
-within-of k (fin true zero e) h =
+pub upto-test : (k : ℕ) (x : Float) → Upto k 1 x → T (upto k x)
+unfolding upto le
+upto-test k nan h = absurd (h .0)
+upto-test k (inf s) h = absurd (h .0)
+upto-test k (fin true (suc m) e) h = absurd (h .0)
+upto-test k (fin true zero e) h =
     and-i (le nought (fin true zero e)) (le (fin true zero e) (whole k)) (level (0 * down e) (0 * up e * 1) (zero-mul (down e)) (zero-size e)) (under (0 * up e * 1) (k * 1 * down e) (zero-size e))
   where
     zero-size : (e : ℤ) → 0 * up e * 1 ≡ 0
@@ -66,36 +66,36 @@ within-of k (fin true zero e) h =
     under : (a b : ℕ) → a ≡ 0 → T (ltb 0 (a + b) || (eqb a b && (false || eqb a 0)))
     under a zero p = subst (λ (x : ℕ). T (ltb 0 (x + 0) || (eqb x 0 && (false || eqb x 0)))) (sym p) tt
     under a (suc b) p = or-left (ltb 0 (a + suc b)) (eqb a (suc b) && (false || eqb a 0)) (lt→ltb 0 (a + suc b) (omega arith))
-within-of k (fin false m e) h =
+upto-test k (fin false m e) h =
     and-i (le nought (fin false m e)) (le (fin false m e) (whole k))
     (le-of-values nought (fin false m e) 0 1 (m * up e) (down e) (pow-pos 0) (down-pos e) (refl, refl) (refl, refl) (subst (λ (z : ℕ). z ≤ m * up e * 1) (sym (zero-mul (down e))) zero-le))
     (le-of-values (fin false m e) (whole k) (m * up e) (down e) k 1 (down-pos e) (pow-pos 0) (refl, refl) (whole-value k) (h .1))
 
-pub within-more : (j k : ℕ) (x : Float) → j ≤ k → T (within j x) → T (within k x)
-within-more j k x h t = let u = upto-of j x t in within-of k x (u .0, le-trans (u .1) (mul-le-mul-right (den x) h))
+pub upto-more : (j k : ℕ) (x : Float) → j ≤ k → T (upto j x) → T (upto k x)
+upto-more j k x h t = let u = upto-fact j x t in upto-test k x (u .0, le-trans (u .1) (mul-le-mul-right (den x) h))
 
--- ---- a NaN, below 0 or above k: exactly what is not within
+-- ---- a NaN, below 0 or above k: exactly where `upto k` does not hold
 refuted : (b : Bool) → (T b → ⊥) → b ≡ false
 refuted b h = is-false b (not-T b h)
 
-outside-fin : (k m : ℕ) (e : ℤ) (b : Bool) → lt (whole k) (fin false m e) ≡ b → b ≡ not (within k (fin false m e))
+outside-fin : (k m : ℕ) (e : ℤ) (b : Bool) → lt (whole k) (fin false m e) ≡ b → b ≡ not (upto k (fin false m e))
 unfolding lt
 outside-fin k m e true h =
-    sym (ap not (refuted (within k (fin false m e)) (λ (t : T (within k (fin false m e))). not-le-of-lt (ltb-true (k * 1 * down e) (m * up e * 1) h) (le-trans (upto-of k (fin false m e) t .1) (le-of-eq (ap (λ (z : ℕ). z * down e) (sym (mul-one k))))))))
+    sym (ap not (refuted (upto k (fin false m e)) (λ (t : T (upto k (fin false m e))). not-le-of-lt (ltb-true (k * 1 * down e) (m * up e * 1) h) (le-trans (upto-fact k (fin false m e) t .1) (le-of-eq (ap (λ (z : ℕ). z * down e) (sym (mul-one k))))))))
 outside-fin k m e false h =
-    sym (ap not (is-true (within k (fin false m e)) (within-of k (fin false m e) (tt, le-trans (ltb-false (k * 1 * down e) (m * up e * 1) h) (le-of-eq (ap (λ (z : ℕ). z * down e) (mul-one k)))))))
+    sym (ap not (is-true (upto k (fin false m e)) (upto-test k (fin false m e) (tt, le-trans (ltb-false (k * 1 * down e) (m * up e * 1) h) (le-of-eq (ap (λ (z : ℕ). z * down e) (mul-one k)))))))
 
-pub outside-is : (k : ℕ) (x : Float) → (isNan x || (lt x nought || lt (whole k) x)) ≡ not (within k x)
-unfolding isNan lt within le
+pub outside-is : (k : ℕ) (x : Float) → (isNan x || (lt x nought || lt (whole k) x)) ≡ not (upto k x)
+unfolding isNan lt upto le
 outside-is k nan = refl
 outside-is k (inf true) = refl
 outside-is k (inf false) = refl
 outside-is k (fin true zero e) =
     ap (λ (t : Bool). t || false) (le-ltb 0 (0 * up e * 1 + 0 * down e) (le-of-eq (ap₂ (λ (y z : ℕ). y * 1 + z) (zero-mul (up e)) (zero-mul (down e)))))
-    ∙ sym (ap not (is-true (within k (fin true zero e)) (within-of k (fin true zero e) (tt, zero-upto k 1 e))))
+    ∙ sym (ap not (is-true (upto k (fin true zero e)) (upto-test k (fin true zero e) (tt, zero-upto k 1 e))))
 outside-is k (fin true (suc m) e) =
     ap (λ (t : Bool). t || false) (is-true (lt (fin true (suc m) e) nought) (negative-under m e))
-    ∙ sym (ap not (refuted (within k (fin true (suc m) e)) (λ (t : T (within k (fin true (suc m) e))). upto-of k (fin true (suc m) e) t .0)))
+    ∙ sym (ap not (refuted (upto k (fin true (suc m) e)) (λ (t : T (upto k (fin true (suc m) e))). upto-fact k (fin true (suc m) e) t .0)))
 outside-is k (fin false m e) =
     ap (λ (t : Bool). t || lt (whole k) (fin false m e)) (le-ltb (m * up e * 1) (0 * down e) (subst (λ (z : ℕ). z ≤ m * up e * 1) (sym (zero-mul (down e))) zero-le))
     ∙ outside-fin k m e (lt (whole k) (fin false m e)) refl
@@ -219,13 +219,13 @@ add-upto f (fin false m e) y p q b d P Q q' d' Q' u v w h =
         le-of-mul-le-mul-right (le-trans (le-of-eq l) (le-trans (add-le-add (mul-le-mul-right (d * Q) k) (le-refl (b * c * Q * q))) (le-trans (le-of-eq m) (le-trans (mul-le-mul-right c h) (le-of-eq r))))) q'
 
 -- ---- the two that every lookup needs
-pub scaled-within : (f : Format) (y : Float) (k : ℕ) → T (within 1 y) → k ≤ 65536 → T (within k (mul f y (ofInt f (pos k))))
-scaled-within f y k t K =
-    within-of k (mul f y (ofInt f (pos k))) (mul-upto f y (ofInt f (pos k)) 1 1 k 1 k 1 (pow-pos 0) (pow-pos 0) (pow-pos 0) (upto-of 1 y t) (whole-of f k K) (whole-held f k K) (omega arith))
+pub scaled-upto : (f : Format) (y : Float) (k : ℕ) → T (upto 1 y) → k ≤ 65536 → T (upto k (mul f y (ofInt f (pos k))))
+scaled-upto f y k t K =
+    upto-test k (mul f y (ofInt f (pos k))) (mul-upto f y (ofInt f (pos k)) 1 1 k 1 k 1 (pow-pos 0) (pow-pos 0) (pow-pos 0) (upto-fact 1 y t) (whole-of f k K) (whole-held f k K) (omega arith))
 
-pub ratio-within : (f : Format) (p q : ℕ) → p ≤ q → 0 < q → q ≤ 65536 → T (within 1 (div f (ofInt f (pos p)) (ofInt f (pos q))))
-ratio-within f p q h Q K =
-    within-of 1 (div f (ofInt f (pos p)) (ofInt f (pos q)))
+pub ratio-upto : (f : Format) (p q : ℕ) → p ≤ q → 0 < q → q ≤ 65536 → T (upto 1 (div f (ofInt f (pos p)) (ofInt f (pos q))))
+ratio-upto f p q h Q K =
+    upto-test 1 (div f (ofInt f (pos p)) (ofInt f (pos q)))
     (div-upto f (ofInt f (pos p)) (ofInt f (pos q)) p 1 q 1 1 1 (pow-pos 0) (pow-pos 0) Q (pow-pos 0) (whole-of f p (le-trans h K)) (whole-of f q K) (whole-held f 1 (lit≤ tt)) (omega arith))
 
 -- ---- a quotient of whole numbers is at most one part in 2 ^ prec too large

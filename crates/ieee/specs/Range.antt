@@ -1,4 +1,4 @@
--- The whole numbers as floats, and what it is to lie from 0 to one of them. Definitions only.
+-- The whole numbers as floats, and what it is to lie from 0 to one of them. Assumes nothing.
 use Prim.Native.Nat.{ℕ}
 use mathlib.Core.Bool.{Bool, false, _&&_}
 use lib.IntN.{pos}
@@ -14,6 +14,6 @@ nought = whole 0
 abbrev pub one : Float
 one = whole 1
 
--- 0 ≤ x ≤ k by the comparisons of IEEE 754: -0.0 is within, a NaN and the infinities are not
-unfoldable pub within : ℕ → Float → Bool
-within k x = le nought x && le x (whole k)
+-- 0 ≤ x ≤ k by the comparisons of IEEE 754: -0.0 is among them, a NaN and the infinities are not
+unfoldable pub upto : ℕ → Float → Bool
+upto k x = le nought x && le x (whole k)

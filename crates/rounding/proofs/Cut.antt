@@ -14,8 +14,8 @@ use lib.Ieee.{Float, nan, inf, fin, Format, binary64, add, up, down, lt, toUnsig
 use lib.Ieee.Fits.{down-pos}
 use lib.Ieee.Exact.{HasValue, round-exact}
 use lib.Ieee.Positive.{num, den, den-pos}
-use Rattle.ieee.specs.Range.{within}
-use Rattle.ieee.proofs.Range.{counts, Upto, Held, upto-of, within-of, add-upto, whole-of}
+use Rattle.ieee.specs.Range.{upto}
+use Rattle.ieee.proofs.Range.{counts, Upto, Held, upto-fact, upto-test, add-upto, whole-of}
 use Rattle.rounding.specs.Cut.{floor, ceil, FloorPromise, CeilPromise}
 
 -- ---- bounds
@@ -23,15 +23,15 @@ pub floor-below : (x : Float) (k : ℕ) → num x < k * den x → floor x < k
 unfolding floor
 floor-below x k h = div-lt-iff-lt-mul (den-pos x) .1 h
 
-pub floor-upto : (k : ℕ) (x : Float) → T (within k x) → floor x ≤ k
+pub floor-upto : (k : ℕ) (x : Float) → T (upto k x) → floor x ≤ k
 unfolding floor
-floor-upto k x t = div-le-of-le-mul (den x) (le-trans (subst (λ (z : ℕ). z ≤ k * den x) (mul-one (num x)) (upto-of k x t .1)) (le-of-eq (mul-comm k (den x))))
+floor-upto k x t = div-le-of-le-mul (den x) (le-trans (subst (λ (z : ℕ). z ≤ k * den x) (mul-one (num x)) (upto-fact k x t .1)) (le-of-eq (mul-comm k (den x))))
 
-pub ceil-upto : (k : ℕ) (x : Float) → T (within k x) → ceil x ≤ k
+pub ceil-upto : (k : ℕ) (x : Float) → T (upto k x) → ceil x ≤ k
 unfolding ceil
 ceil-upto k x t =
     last ((num x + (den x - 1)) / den x)
-    (div-lt-iff-lt-mul (den-pos x) .1 (subst (λ (z : ℕ). num x + (den x - 1) < z) (sym (suc-mul k (den x))) (go (num x) (den x) (k * den x) (den-pos x) (upto-of k x t .1))))
+    (div-lt-iff-lt-mul (den-pos x) .1 (subst (λ (z : ℕ). num x + (den x - 1) < z) (sym (suc-mul k (den x))) (go (num x) (den x) (k * den x) (den-pos x) (upto-fact k x t .1))))
   where
     go : (n d t : ℕ) → 0 < d → n * 1 ≤ t → n + (d - 1) < t + d
     go n d t p q = omega arith
@@ -71,8 +71,8 @@ module _ (x : Float) (u : Upto 262141 4 x) where
   sum-upto : Upto 262143 4 (add binary64 x half)
   sum-upto = add-upto binary64 x half 262141 4 1 2 262143 4 (lit< tt) (lit< tt) (lit< tt) u (refl, refl) quarters (lit≤ tt)
 
-  pub half-within : T (within 65536 (add binary64 x half))
-  half-within = let y = add binary64 x half in within-of 65536 y (sum-upto .0, go (num y) (den y) (sum-upto .1))
+  pub half-upto : T (upto 65536 (add binary64 x half))
+  half-upto = let y = add binary64 x half in upto-test 65536 y (sum-upto .0, go (num y) (den y) (sum-upto .1))
     where
       go : (n d : ℕ) → n * 4 ≤ 262143 * d → n * 1 ≤ 65536 * d
       go n d h = omega arith
@@ -83,8 +83,8 @@ module _ (x : Float) (u : Upto 262141 4 x) where
       go : (n d : ℕ) → 0 < d → n * 4 ≤ 262143 * d → n < 65536 * d
       go n d D h = omega arith
 
-pub upto-quarter : (x : Float) → T (within 65535 x) → Upto 262141 4 x
-upto-quarter x t = let u = upto-of 65535 x t in (u .0, go (num x) (den x) (u .1))
+pub upto-quarter : (x : Float) → T (upto 65535 x) → Upto 262141 4 x
+upto-quarter x t = let u = upto-fact 65535 x t in (u .0, go (num x) (den x) (u .1))
   where
     go : (n d : ℕ) → n * 1 ≤ 65535 * d → n * 4 ≤ 262141 * d
     go n d h = omega arith
@@ -172,24 +172,24 @@ ceil-of-test x y true c h t = sym (next-up (num x) (den x) (den-pos x) (ltb-true
 ceil-of-test x y false c h t = sym (itself (num x) (den x) (den-pos x) (ltb-false (num x / den x * den x) (num x) (sym (lt-whole y x (num x / den x) c h) ∙ t)))
 
 -- ---- what the functions of `inside` cite, of an x from 0 to 65,536
-module _ (x : Float) (t : T (within 65536 x)) where
+module _ (x : Float) (t : T (upto 65536 x)) where
   far : num x < 2 ^ 64 * den x
-  far = go (num x) (den x) (den-pos x) (upto-of 65536 x t .1)
+  far = go (num x) (den x) (den-pos x) (upto-fact 65536 x t .1)
     where
       go : (n d : ℕ) → 0 < d → n * 1 ≤ 65536 * d → n < 18446744073709551616 * d
       go n d D h = omega arith
 
   pub cut-asks : T (lt (fin true 1 (pos 0)) x) × T (lt x (fin false 1 (pos 64)))
-  cut-asks = asked x 64 (upto-of 65536 x t .0) far
+  cut-asks = asked x 64 (upto-fact 65536 x t .0) far
 
   pub floor-gives : (r : ℕ) → r ≡ toUnsigned 64 x → FloorPromise x r
   floor-gives r e =
-      let k : r ≡ floor x = e ∙ truncated x 64 (upto-of 65536 x t .0) far in
+      let k : r ≡ floor x = e ∙ truncated x 64 (upto-fact 65536 x t .0) far in
       record { value = k; small = subst (λ (z : ℕ). z ≤ 65536) (sym k) (floor-upto 65536 x t) }
 
   pub ceil-gives : (f : Format) (r : ℕ) (b : Bool) → FloorPromise x r → lt (ofInt f (pos r)) x ≡ b → CeilPromise x (cond b (r + 1) r)
   ceil-gives f r b p e =
       let k : cond b (r + 1) r ≡ ceil x =
       ap (λ (z : ℕ). cond b (z + 1) z) (p .value)
-      ∙ ceil-of-test x (ofInt f (pos r)) b (upto-of 65536 x t .0) (subst (λ (z : ℕ). HasValue (ofInt f (pos r)) false z 1) (p .value) (whole-of f r (p .small))) e in
+      ∙ ceil-of-test x (ofInt f (pos r)) b (upto-fact 65536 x t .0) (subst (λ (z : ℕ). HasValue (ofInt f (pos r)) false z 1) (p .value) (whole-of f r (p .small))) e in
       record { value = k; small = subst (λ (z : ℕ). z ≤ 65536) (sym k) (ceil-upto 65536 x t) }

@@ -71,15 +71,15 @@ module _ (s : Bool) (q j : ℕ) (hi : q < 2 ^ 53) where
       far j h = omega arith
 
   -- less than half of the smallest f32
-  none : j ≤ 870 → ofBits binary32 (cond s 2147483648 0 + 0) ≡ rounded
+  none : j ≤ 871 → ofBits binary32 (cond s 2147483648 0 + 0) ≡ rounded
   none J =
       ap (λ (z : ℕ). ofBits binary32 (cond s 2147483648 0 + z)) (sym (closest-none q (2 ^ (925 - j)) (lt-of-lt-of-le (twice q hi) (pow-mono (far j J)))))
       ∙ low (le-trans J (lit≤ tt))
     where
-      twice : (q : ℕ) → q < 9007199254740992 → q * 2 < 36028797018963968
+      twice : (q : ℕ) → q < 9007199254740992 → q * 2 < 18014398509481984
       twice q h = omega arith
 
-      far : (j : ℕ) → j ≤ 870 → 55 ≤ 925 - j
+      far : (j : ℕ) → j ≤ 871 → 54 ≤ 925 - j
       far j h = omega arith
 
   module _ (lo : 2 ^ 52 ≤ q) where
@@ -146,14 +146,14 @@ module _ (s : Bool) (t : ℕ) (T52 : t < 2 ^ 52) where
       ∙ normal s (2 ^ 52 + t) j hi lo (omega arith) (omega arith)
       ∙ sym (number j (omega arith))
 
-  pub shown-low : (e : ℕ) → 872 ≤ e → e < 897 → Shown e t (closest (4503599627370496 + t) (2 ^ (926 - e))) s
+  pub shown-low : (e : ℕ) → 873 ≤ e → e < 897 → Shown e t (closest (4503599627370496 + t) (2 ^ (926 - e))) s
   shown-low zero E H = absurd (omega arith)
   shown-low (suc j) E H =
       ap (λ (z : ℕ). ofBits binary32 (cond s 2147483648 0 + closest (4503599627370496 + t) (2 ^ z))) (suc-sub-suc 925 j)
       ∙ low s (2 ^ 52 + t) j hi (omega arith)
       ∙ sym (number j (omega arith))
 
-  pub shown-none : (e : ℕ) → e < 872 → Shown e t 0 s
+  pub shown-none : (e : ℕ) → e < 873 → Shown e t 0 s
   shown-none zero E = none s t 0 (lt-of-lt-of-le T52 (lit≤ tt)) zero-le ∙ sym at-zero
   shown-none (suc j) E = none s (2 ^ 52 + t) j hi (omega arith) ∙ sym (number j (omega arith))
 
@@ -179,25 +179,25 @@ module _ (e t : ℕ) (T52 : t < 4503599627370496) where
   abbrev shift : ℕ
   shift = 1 * 2 ^ (926 - e) % 18446744073709551616
 
-  shifted : 872 ≤ e → shift ≡ 2 ^ (926 - e)
+  shifted : 873 ≤ e → shift ≡ 2 ^ (926 - e)
   shifted a =
       let room : 1 + (926 - e) ≤ 64 = omega arith in
       shl-exact 1 (926 - e) 64 (lit< tt) room ∙ one-mul (2 ^ (926 - e))
 
-  pub low-asks : 872 ≤ e → (0 < shift) × ((shift ≤ 4611686018427387904) × (4503599627370496 + t < 4611686018427387904))
+  pub low-asks : 873 ≤ e → (0 < shift) × ((shift ≤ 4611686018427387904) × (4503599627370496 + t < 4611686018427387904))
   low-asks a =
-      let few : 926 - e ≤ 54 = omega arith in (
+      let few : 926 - e ≤ 53 = omega arith in (
         subst (λ (z : ℕ). 0 < z) (sym (shifted a)) (pow-pos (926 - e)),
         (subst (λ (z : ℕ). z ≤ 4611686018427387904) (sym (shifted a)) (le-trans (pow-mono few) (lit≤ tt)), omega arith),
       )
 
-  pub low-gives : (r : ℕ) → 872 ≤ e → e < 897 → r ≡ closest (4503599627370496 + t) shift → Pattern r
+  pub low-gives : (r : ℕ) → 873 ≤ e → e < 897 → r ≡ closest (4503599627370496 + t) shift → Pattern r
   low-gives r a b p =
       let q : r ≡ closest (4503599627370496 + t) (2 ^ (926 - e)) = p ∙ ap (closest (4503599627370496 + t)) (shifted a) in
       let far : 29 ≤ 926 - e = omega arith in
       (le-trans (quotient-le t (2 ^ (926 - e)) r T52 (pow-mono far) q) (lit≤ tt), λ (s : Bool). ap (λ (z : ℕ). ofBits binary32 (cond s 2147483648 0 + z)) q ∙ shown-low s t T52 e a b)
 
-  pub none-gives : e < 872 → Pattern 0
+  pub none-gives : e < 873 → Pattern 0
   none-gives a = (zero-le, λ (s : Bool). shown-none s t T52 e a)
 
 -- ---- an f64 that is no NaN, and its pattern

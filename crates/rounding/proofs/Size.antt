@@ -10,9 +10,9 @@ use lib.Pow.{pow-pos}
 use lib.Ieee.{Float, nan, inf, fin, Format, up, down, fits, isNan, lt, le, eq, ne, sub, ofBits}
 use lib.Ieee.Bits.{is-true}
 use borrow.Author.Tests.{not-false}
-use Rattle.ieee.proofs.Range.{within-of, outside-is}
+use Rattle.ieee.proofs.Range.{upto-test, outside-is}
 use lib.Ieee.Fits.{down-pos}
-use Rattle.ieee.specs.Range.{nought, whole, within}
+use Rattle.ieee.specs.Range.{nought, whole, upto}
 use Rattle.ieee.proofs.Tests.{differs-is-nan, bits-nought, negative-under, positive-not-under, or-left}
 use Rattle.ieee.proofs.Zero.{zero-is-null, zero-plus-zero, zeros-ordered}
 use Rattle.ieee.proofs.Value.{round-id}
@@ -33,19 +33,19 @@ unfolding least
 least-itself x bound h k = record { value = sym (ap₂ (λ (t u : Bool). cond (t || u) bound x) (differs-is-nan x false h) k) }
 
 -- a number that is not below 0, cut off at k, is from 0 to k
-pub least-within : (k : ℕ) (x : Float) → lt x nought ≡ false → T (within k (least x (whole k)))
+pub least-upto : (k : ℕ) (x : Float) → lt x nought ≡ false → T (upto k (least x (whole k)))
 unfolding least
-least-within k x h = go (isNan x) (lt (whole k) x) refl refl
+least-upto k x h = go (isNan x) (lt (whole k) x) refl refl
   where
-    bound-in : T (within k (whole k))
-    bound-in = within-of k (whole k) (tt, le-of-eq (mul-one (k * 1)))
+    bound-in : T (upto k (whole k))
+    bound-in = upto-test k (whole k) (tt, le-of-eq (mul-one (k * 1)))
 
-    go : (t u : Bool) → isNan x ≡ t → lt (whole k) x ≡ u → T (within k (cond (t || u) (whole k) x))
+    go : (t u : Bool) → isNan x ≡ t → lt (whole k) x ≡ u → T (upto k (cond (t || u) (whole k) x))
     go true u e g = bound-in
     go false true e g = bound-in
     go false false e g =
-        let out : (false || (false || false)) ≡ not (within k x) = sym (ap₂ (λ (a b : Bool). a || b) e (ap₂ (λ (a b : Bool). a || b) h g)) ∙ outside-is k x in
-        subst T (sym (not-false (within k x) (sym out))) tt
+        let out : (false || (false || false)) ≡ not (upto k x) = sym (ap₂ (λ (a b : Bool). a || b) e (ap₂ (λ (a b : Bool). a || b) h g)) ∙ outside-is k x in
+        subst T (sym (not-false (upto k x) (sym out))) tt
 
 -- ---- the size
 -- at 0 and below, 0 - x

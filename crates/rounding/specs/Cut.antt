@@ -1,4 +1,4 @@
--- Floor and ceil of a float that is finite and not below zero, as whole numbers. Definitions only.
+-- Floor and ceil of a float that is finite and not below zero, as whole numbers. Assumes nothing.
 use mathlib.Core.Path.{_≡_}
 use Prim.Native.Nat.{ℕ, _+_, _-_, _/_, _≤_}
 use lib.Ieee.{Float}

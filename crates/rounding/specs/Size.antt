@@ -1,4 +1,4 @@
--- The lesser of two floats, and a float without its sign. Definitions only.
+-- The lesser of two floats, and a float without its sign. Assumes nothing.
 use mathlib.Core.Path.{_≡_}
 use mathlib.Core.Bool.{false, _||_, cond}
 use lib.Ieee.{Float, nan, inf, fin, isNan, lt}

@@ -27,7 +27,7 @@ fn nearest_quotient(n: u64, d: u64) -> u64
 }
 
 // The bit pattern, without its sign, of the f32 nearest to the f64 that has `exponent` in its exponent's field and `digits` in the one below.
-// An f64's exponent is 896 above an f32's of the same number, and its digits are 29 more. From 1151 on the number is too large, up to 871 it is
+// An f64's exponent is 896 above an f32's of the same number, and its digits are 29 more. From 1151 on the number is too large, up to 872 it is
 // less than half of the smallest f32, and from there to 896 the f32 is subnormal, with one digit less for each step down.
 fn magnitude(exponent: u64, digits: u64) -> u64
     requires { ⌜ exponent ≤ 2047 ⌝ ∗ ⌜ digits < 0x10_0000_0000_0000 ⌝ ∗ ⌜ (exponent ≡ 2047 → digits ≡ 0) ⌝ }
@@ -41,7 +41,7 @@ fn magnitude(exponent: u64, digits: u64) -> u64
         return (exponent - 897) * 0x80_0000
             + nearest_quotient(0x10_0000_0000_0000 + digits, 0x2000_0000);
     }
-    if exponent >= 872 {
+    if exponent >= 873 {
         return nearest_quotient(0x10_0000_0000_0000 + digits, 1 << (926 - exponent));
     }
     0
@@ -95,8 +95,8 @@ pub fn min_f32(x: f32, bound: f32) -> f32
 pub fn abs_f32(x: f32) -> f32
     ensures { λ r. ⌜ AbsPromise x r ⌝ }
 {
-    if x <= 0.0 {
-        return 0.0 - x;
+    if x <= 0.0f32 {
+        return 0.0f32 - x;
     }
     x
 }
@@ -104,8 +104,8 @@ pub fn abs_f32(x: f32) -> f32
 pub fn abs_f64(x: f64) -> f64
     ensures { λ r. ⌜ AbsPromise x r ⌝ }
 {
-    if x <= 0.0 {
-        return 0.0 - x;
+    if x <= 0.0f64 {
+        return 0.0f64 - x;
     }
     x
 }
