@@ -1,0 +1,6 @@
+-- `Answers`: a verdict's number and values tell one verdict. `Steps` and `Runs`: what the two counts are, and the walks that make them.
+-- `Promises`: each promise names one answer.
+pub mod Answers
+pub mod Steps
+pub mod Runs
+pub mod Promises
