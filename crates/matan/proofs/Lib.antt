@@ -4,3 +4,4 @@ pub mod Answers
 pub mod Steps
 pub mod Runs
 pub mod Promises
+mod Worked

@@ -2,11 +2,12 @@
 use mathlib.Core.Path.{_≡_, _∙_, refl, sym}
 use mathlib.Core.Bool.{true, false}
 use mathlib.Core.List.{List}
-use Prim.Native.Nat.{ℕ, _*_, _≤_, _<_}
+use Prim.Native.Nat.{ℕ, _*_, _≤_, _<_, zero-le}
 use borrow.Author.Tests.{lt-ltb, le-ltb, le-leb, lt-leb}
 use lib.ListN.{length}
 use Rattle.table.specs.Sizes.{within}
 use Rattle.table.specs.declared.Refusal.the-variants.{TableLength}
+use Rattle.table.proofs.Sizes.{within-is}
 use Rattle.matan.specs.Steps.{violations, monotonic}
 use Rattle.matan.specs.Runs.{leading, trailing, degenerated}
 use Rattle.matan.specs.Promises.{MonotonicPromise, DegeneratedPromise}
@@ -22,6 +23,10 @@ one-monotonic t d r s p q =
 
 pub one-degenerated : (t : List ℕ) (r s : Degenerated) → DegeneratedPromise t r → DegeneratedPromise t s → r ≡ s
 one-degenerated t r s p q = same-degenerated r s (p .number ∙ sym (q .number)) (p .yes ∙ sym (q .yes))
+
+-- the test of the length fails above 65,536 entries
+pub too-long : (n : ℕ) → 65536 < n → within 0 65536 n ≡ false
+too-long n h = within-is 0 65536 n zero-le ∙ lt-leb n 65536 h
 
 module _ (t : List ℕ) (d : Direction) where
   pub monotonic-long : within 0 65536 (length t) ≡ false → MonotonicPromise t d (Monotonic.Refused TableLength)
