@@ -4,4 +4,5 @@ pub mod Answers
 pub mod Steps
 pub mod Runs
 pub mod Promises
+pub mod Twentieth
 mod Worked

@@ -4,8 +4,8 @@ use mathlib.Core.Path.{_≡_, _∙_, refl, sym, ap}
 use mathlib.Core.Bool.{Bool, true, false}
 use mathlib.Core.Logic.{⊎-elim}
 use mathlib.Core.List.{List, [], _∷_}
-use Prim.Native.Nat.{ℕ, suc, _+_, _-_, _*_, _≤_, _<_}
-use native.Mathlib.Nat.{add-zero, zero-add, add-assoc, le-refl}
+use Prim.Native.Nat.{ℕ, suc, _+_, _-_, _≤_, _<_, zero-le}
+use native.Mathlib.Nat.{add-zero, zero-add, add-assoc, le-refl, le-suc, le-trans}
 use native.Mathlib.Numerals.{add-one}
 use native.Mathlib.Omega.{arith}
 use borrow.Author.Tests.{lt-ltb, le-ltb, le-leb, leb-true}
@@ -17,16 +17,24 @@ use Rattle.table.proofs.Choice.{both-left, both-right, below?}
 use Rattle.matan.specs.Answers.{yesNo}
 use Rattle.matan.specs.Steps.{against, violationsFrom, violations}
 use Rattle.matan.specs.declared.monotonic.Direction.{Direction}
-use Rattle.matan.specs.declared.monotonic.Direction.the-variants.{Rising, Falling}
+use Rattle.matan.specs.declared.monotonic.Direction.the-variants.{Rising}
 
 pub yes-no-few : (b : Bool) → yesNo b ≤ 1
 yes-no-few true = le-refl 1
 yes-no-few false = omega arith
 
+-- there are no more violations than entries
+few-from : (d : Direction) (x : ℕ) (l : List ℕ) → violationsFrom d x l ≤ length l
+few-from d x [] = zero-le
+few-from d x (y ∷ l) = omega (arith, yes-no-few (against d x y), few-from d y l)
+
+pub violations-few : (d : Direction) (t : List ℕ) → violations d t ≤ length t
+violations-few d [] = zero-le
+violations-few d (x ∷ l) = le-trans (few-from d x l) (le-suc (length l))
+
 -- the walk after i entries: count has the violations among them, and the others are still to come
 pub record Counted (d : Direction) (t : List ℕ) (count i : ℕ) : Type 0 where
   pub from : 1 ≤ i
-  pub to : i ≤ length t + 1
   pub few : count < i
   pub sum : count + violationsFrom d (getD t (i - 1) 0) (drop i t) ≡ violations d t
 
@@ -37,7 +45,7 @@ module _ (d : Direction) where
 
   pub counted-start : (t : List ℕ) → Counted d t 0 1
   counted-start t =
-      record { from = omega arith; to = omega arith; few = omega arith; sum = zero-add _ ∙ first-step t }
+      record { from = omega arith; few = omega arith; sum = zero-add _ ∙ first-step t }
 
   pub counted-on : (t : List ℕ) (count i : ℕ) → i < length t → Counted d t count i → Counted d t (count + yesNo (against d (getD t (i - 1) 0) (getD t i 0))) (i + 1)
   counted-on t count i h w =
@@ -47,16 +55,15 @@ module _ (d : Direction) where
       let back : i + 1 - 1 ≡ i = omega arith in
       record {
         from = omega arith;
-        to = omega (arith, w .from);
         few = omega (arith, w .few, yes-no-few (against d (getD t (i - 1) 0) (getD t i 0)));
         sum = rw (back, add-one) (add-assoc count step _ ∙ ap (λ (n : ℕ). count + n) (sym next) ∙ w .sum);
       }
 
-  pub counted-end : (t : List ℕ) (count i : ℕ) → length t ≤ i → Counted d t count i → (count ≡ violations d t) × (count ≤ length t)
+  pub counted-end : (t : List ℕ) (count i : ℕ) → length t ≤ i → Counted d t count i → count ≡ violations d t
   counted-end t count i h w =
       let none : count + violationsFrom d (getD t (i - 1) 0) (drop i t) ≡ count
       = rw (drop-of-length-le t {i = i} h) (add-zero count) in
-      (sym none ∙ w .sum, omega (arith, w .to, w .few))
+      sym none ∙ w .sum
 
 -- fewer than two entries have no neighbours
 pub short-none : (d : Direction) (t : List ℕ) → length t < 2 → violations d t ≡ 0

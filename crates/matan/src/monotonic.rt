@@ -4,7 +4,6 @@ use table::inside::entry;
 use table::within;
 ghost use mathlib.Core.Path.{_≡_};
 ghost use Prim.Native.Nat.{_≤_};
-ghost use lib.ListN.{length};
 ghost use Rattle.matan.specs.Answers.{yesNo};
 ghost use Rattle.matan.specs.Steps.{against, violations};
 ghost use Rattle.matan.specs.Promises.{MonotonicPromise};
@@ -34,7 +33,7 @@ fn against(direction: Direction, previous: usize, current: usize) -> usize
 
 // How many steps from an entry to the next are against the direction.
 fn violations(table: &[u16], direction: Direction) -> usize
-    ensures { λ r. ⌜ (r ≡ violations direction (now (table .entry))) × (r ≤ length (now (table .entry))) ⌝ }
+    ensures { λ r. ⌜ r ≡ violations direction (now (table .entry)) ⌝ }
 {
     let mut count = 0;
     let mut i = 1;

@@ -8,6 +8,7 @@ use lib.ListN.{length}
 use Rattle.table.specs.Sizes.{within}
 use Rattle.table.proofs.Choice.{fails, holds}
 use Rattle.table.proofs.Sizes.{within-high}
+use Rattle.matan.proofs.Steps.{violations-few}
 use Rattle.matan.proofs.Promises.{monotonic-long, monotonic-short, monotonic-yes, monotonic-no}
 use Rattle.matan.proofs.monotonic.is_curve_monotonic.Statement.{statement}
 use Rattle.matan.proofs.monotonic.is_curve_monotonic.Tie as tie
@@ -30,17 +31,19 @@ violations-requires : tie.Need-violations-requires
 violations-requires c κs = search needs
 
 mul-if3 : tie.Need-mul-if3
-mul-if3 c = omega (arith, within-high 0 65536 _ (short-enough (c .before)))
+mul-if3 c =
+    let s = c .before .before .before .before .before in
+    omega (arith, within-high 0 65536 _ (short-enough (c .before)), violations-few (s .args .direction) (now (s .args .table)))
 
 returns-3 : tie.Need-returns-3
 returns-3 c =
     let s = c .before .before in
-    monotonic-yes _ _ (short-enough s) (s .if2 .left) _ (c .before .violations .ensures .0) (c .if3 .taken)
+    monotonic-yes _ _ (short-enough s) (s .if2 .left) _ (c .before .violations .ensures) (c .if3 .taken)
 
 returns-4 : tie.Need-returns-4
 returns-4 c =
     let s = c .before .before in
-    monotonic-no _ _ (short-enough s) (s .if2 .left) _ (c .before .violations .ensures .0) (c .if3 .left)
+    monotonic-no _ _ (short-enough s) (s .if2 .left) _ (c .before .violations .ensures) (c .if3 .left)
 
 pub is-curve-monotonic-spec : {M : Type 1} → statement M
 is-curve-monotonic-spec =

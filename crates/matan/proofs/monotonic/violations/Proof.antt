@@ -1,6 +1,6 @@
 -- `violations` meets its contract. The invariant: the count has the violations among the entries passed, and with those to come it is the table's.
 -- Assumes nothing.
-use Prim.Native.Nat.{_+_, _-_}
+use Prim.Native.Nat.{_-_}
 use native.Mathlib.Omega.{arith}
 use borrow.Author.Needs.{needs}
 use lib.ListN.{length}
