@@ -4,7 +4,7 @@ use mathlib.Core.Path.{_≡_, _∙_, sym}
 use mathlib.Core.Logic.{⊎-elim}
 use mathlib.Core.Bool.{true}
 use mathlib.Core.List.{List}
-use Prim.Native.Nat.{ℕ, _+_, _-_, _*_, _^_, _≤_, _<_}
+use Prim.Native.Nat.{ℕ, _+_, _-_, _*_, _≤_, _<_}
 use native.Mathlib.Nat.{le-refl, le-trans, le-antisymm, lt-of-lt-of-le, lt-irrefl, mul-le-mul-left, mul-le-mul-right, pow-le-pow-left}
 use native.Mathlib.Omega.{arith}
 use lib.Dec.{lit≤, lit<}
@@ -15,16 +15,15 @@ use Rattle.table.specs.Order.{nondecreasing, Nondecreasing, SixteenBits}
 use Rattle.table.proofs.Choice.{below?}
 use Rattle.table.proofs.Sizes.{is-within}
 use Rattle.table.proofs.Order.{fact-test}
-use Rattle.house.specs.House.{IsEntry, IsHouse}
+use Rattle.house.specs.House.{fifth, square, IsEntry, IsHouse}
 
 -- the entry at a later place is not smaller: the smaller number's upper bound would lie below the larger one's lower bound
 module _ (i j n m : ℕ) (ij : i ≤ j) (p : IsEntry i n) (q : IsEntry j m) where
   not-smaller : m < n → ⊥
   not-smaller h =
-      let bounds : (2 * m + 1) ^ 2 * 1023 ^ 5 ≤ (2 * n - 1) ^ 2 * 1023 ^ 5
-      = mul-le-mul-right (1023 ^ 5) (pow-le-pow-left {n = 2 * m + 1} {m = 2 * n - 1} (omega arith) 2) in
-      let powers : 4 * 65535 ^ 2 * i ^ 5 ≤ 4 * 65535 ^ 2 * j ^ 5
-      = mul-le-mul-left (4 * 65535 ^ 2) (pow-le-pow-left {n = i} {m = j} ij 5) in
+      let bounds : square (2 * m + 1) ≤ square (2 * n - 1)
+      = mul-le-mul-right _ (pow-le-pow-left {n = 2 * m + 1} {m = 2 * n - 1} (omega arith) _) in
+      let powers : fifth i ≤ fifth j = mul-le-mul-left _ (pow-le-pow-left {n = i} {m = j} ij _) in
       lt-irrefl _ (lt-of-lt-of-le (q .above) (le-trans bounds (le-trans (p .below (omega arith)) powers)))
 
   pub entry-rises : n ≤ m

@@ -2,7 +2,7 @@
 use mathlib.Core.Path.{_≡_, subst}
 use mathlib.Core.Bool.{Bool, true}
 use mathlib.Core.List.{List, [], _∷_}
-use Prim.Native.Nat.{ℕ, zero, suc, _+_, _-_, _*_, _^_, _<_}
+use Prim.Native.Nat.{ℕ, zero, suc, _+_, _-_, _*_, _<_}
 use native.Mathlib.Nat.{add-zero, zero-add, add-suc, suc-add, le-of-suc-le-suc, not-suc-le-zero}
 use native.Mathlib.Omega.{arith}
 use borrow.Author.Tests.{ltb-true, leb-true, eqb-true}
@@ -10,14 +10,14 @@ use lib.Dec.{ltb, leb, eqb}
 use lib.ListN.{length, getD}
 use Rattle.table.specs.Choice.{both}
 use Rattle.table.proofs.Choice.{both-left, both-right}
-use Rattle.house.specs.House.{IsEntry, IsHouse}
+use Rattle.house.specs.House.{fifth, square, IsEntry, IsHouse}
 
 -- the rule's two sides as tests; at n = 0 the second holds too, since 2·0 - 1 is 0 here
 abbrev above? : ℕ → ℕ → Bool
-above? i n = ltb (4 * 65535 ^ 2 * i ^ 5) ((2 * n + 1) ^ 2 * 1023 ^ 5)
+above? i n = ltb (fifth i) (square (2 * n + 1))
 
 abbrev below? : ℕ → ℕ → Bool
-below? i n = leb ((2 * n - 1) ^ 2 * 1023 ^ 5) (4 * 65535 ^ 2 * i ^ 5)
+below? i n = leb (square (2 * n - 1)) (fifth i)
 
 -- each entry meets the rule at its place, the first one's being i
 abbrev every? : ℕ → List ℕ → Bool
