@@ -11,7 +11,7 @@ ghost use Rattle.house.specs.Promises.{EntryPromise, FillPromise};
 
 mod curve;
 
-// Entry i. Whoever wants many fills a buffer, which costs as much as a few of these.
+// Entry i. Whoever wants many fills a buffer, which costs no more than one of these.
 pub fn entry(i: usize) -> Looked
     ensures { λ r. ⌜ EntryPromise i r ⌝ }
 {
@@ -19,7 +19,8 @@ pub fn entry(i: usize) -> Looked
         return Looked::Refused(Refusal::IndexBeyond);
     }
     let curve = curve();
-    Looked::At(Density(curve[i]))
+    let density = curve[i];
+    Looked::At(Density(density))
 }
 
 // The whole curve into a buffer of its length.

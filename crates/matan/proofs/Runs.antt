@@ -1,4 +1,4 @@
--- The run of one number at the start of a list: what it is, and the walk that counts it; and a list read from its end. Assumes nothing.
+-- The run of one number at the start of a list, a list read from its end, and the walk that counts the run at either end of a table. Assumes nothing.
 use mathlib.Core.Path.{_≡_, _∙_, refl, ap}
 use mathlib.Core.Logic.{⊎-elim}
 use mathlib.Core.List.{List, [], _∷_, reverse, reverse-cons}

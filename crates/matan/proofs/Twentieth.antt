@@ -1,5 +1,6 @@
 -- The Rust asks whether `violations as f64 / n as f64` is below 0.05. Of every table that is judged, that is the document's 20v < n: rounding keeps the
--- order of fractions, 0.05 is a twentieth rounded, and the largest fraction below a twentieth with a denominator up to 65,536 rounds to another value.
+-- order of fractions, 0.05 is a twentieth rounded, and no fraction below a twentieth with a denominator up to 65,536 is above 65535/1310720, which rounds
+-- to less than 0.05.
 -- Assumes nothing.
 use mathlib.Core.Path.{_≡_, _∙_, refl, sym, ap, ap₂, subst}
 use mathlib.Core.Logic.{⊎-elim}
@@ -77,7 +78,7 @@ le-then-lt x y z p q r P h k =
     (le-trans (le-of-eq (mul-right-comm x r q)) (le-trans (mul-le-mul-right r h) (le-of-eq (mul-right-comm y p r))))
     (lt-of-lt-of-le (mul-lt-mul-of-pos-right k P) (le-of-eq (mul-right-comm z q p))))
 
--- The fractions between which all others here lie, and the largest below a twentieth: each, rounded, is above zero, and the last is below 0.05.
+-- The fractions between which all others here lie, a twentieth, and the bound on those below it: each, rounded, is above zero, and the bound is below 0.05.
 least-positive : T (positive (round binary64 false 1 65536))
 unfolding round
 least-positive = tt
@@ -159,7 +160,7 @@ module _ (v n : ℕ) (vn : v ≤ n) (few : n ≤ 65536) where
       wide : n ≤ 2 ^ 53
       wide = le-trans few (lit≤ tt)
 
--- so the verdict is the Rust's, once the direction is given
+-- so the verdict is the Rust's, in the direction that it is given
 pub as-the-rust : (d : Direction) (t : List ℕ) → length t ≤ 65536 → monotonic d t ≡ pick (ltb (length t) 2) true (f64Test (violations d t) (length t))
 unfolding monotonic
 as-the-rust d t few = go (length t) (violations-few d t) few

@@ -1,5 +1,5 @@
 -- The edges of both verdicts, worked out by the checker from the definitions. Assumes nothing.
-use mathlib.Core.Path.{refl}
+use mathlib.Core.Path.{_≡_, refl}
 use mathlib.Core.List.{List, [], _∷_, _++_}
 use Prim.Native.Nat.{ℕ}
 use native.Mathlib.Omega.{arith}
@@ -13,92 +13,57 @@ use Rattle.matan.specs.declared.monotonic.Direction.{Direction}
 use Rattle.matan.specs.declared.monotonic.Direction.the-variants.{Rising, Falling}
 use Rattle.matan.specs.declared.monotonic.Monotonic.{Monotonic}
 use Rattle.matan.specs.declared.degeneration.Degenerated.{Degenerated}
-use Rattle.matan.proofs.Promises.{too-long, monotonic-long, degenerated-long}
+use Rattle.matan.proofs.Promises.{too-long, monotonic-long, monotonicAnswer, degenerated-long, degeneratedAnswer}
 
--- n entries alike with another before them or after them
+-- n fives, with another number before them or after them
 abbrev before : ℕ → ℕ → List ℕ
 before x n = x ∷ replicate n 5
 
 abbrev after : ℕ → ℕ → List ℕ
 after n x = replicate n 5 ++ (x ∷ [])
 
--- one violation among 20 entries is too many, among 21 it is not: in the last pair and in the first, rising and falling
-fall-last-20 : MonotonicPromise (after 19 4) Rising (Monotonic.No 1)
-unfolding monotonic within
-fall-last-20 = record { number = refl; yes = refl; count = refl }
+-- one violation in 20 entries is too many and in 21 it is not: a fall in the last pair and in the first, then a rise in each
+one-violation :
+    (monotonicAnswer (after 19 4) Rising ≡ Monotonic.No 1)
+    × (monotonicAnswer (after 20 4) Rising ≡ Monotonic.Yes 1)
+    × (monotonicAnswer (before 6 19) Rising ≡ Monotonic.No 1)
+    × (monotonicAnswer (before 6 20) Rising ≡ Monotonic.Yes 1)
+    × (monotonicAnswer (after 19 6) Falling ≡ Monotonic.No 1)
+    × (monotonicAnswer (after 20 6) Falling ≡ Monotonic.Yes 1)
+    × (monotonicAnswer (before 4 19) Falling ≡ Monotonic.No 1)
+    × (monotonicAnswer (before 4 20) Falling ≡ Monotonic.Yes 1)
+unfolding monotonicAnswer monotonic within
+one-violation = (refl, refl, refl, refl, refl, refl, refl, refl)
 
-fall-last-21 : MonotonicPromise (after 20 4) Rising (Monotonic.Yes 1)
-unfolding monotonic within
-fall-last-21 = record { number = refl; yes = refl; count = refl }
+-- a rise is none where the direction is rising, nor are equal neighbours either way; fewer than two entries have none; a pair that falls has one, and no
+few-violations :
+    (monotonicAnswer (after 19 6) Rising ≡ Monotonic.Yes 0)
+    × (monotonicAnswer (replicate 20 5) Rising ≡ Monotonic.Yes 0)
+    × (monotonicAnswer (replicate 20 5) Falling ≡ Monotonic.Yes 0)
+    × (monotonicAnswer [] Rising ≡ Monotonic.Yes 0)
+    × (monotonicAnswer (5 ∷ []) Falling ≡ Monotonic.Yes 0)
+    × (monotonicAnswer (6 ∷ 5 ∷ []) Rising ≡ Monotonic.No 1)
+unfolding monotonicAnswer monotonic within
+few-violations = (refl, refl, refl, refl, refl, refl)
 
-fall-first-20 : MonotonicPromise (before 6 19) Rising (Monotonic.No 1)
-unfolding monotonic within
-fall-first-20 = record { number = refl; yes = refl; count = refl }
+-- a run of 19 at an end is too short and one of 20 is not: at the first entry, and at the last
+end-runs :
+    (degeneratedAnswer (after 19 6) ≡ Degenerated.No)
+    × (degeneratedAnswer (after 20 6) ≡ Degenerated.Yes)
+    × (degeneratedAnswer (before 6 19) ≡ Degenerated.No)
+    × (degeneratedAnswer (before 6 20) ≡ Degenerated.Yes)
+unfolding degeneratedAnswer degenerated leading within
+end-runs = (refl, refl, refl, refl)
 
-fall-first-21 : MonotonicPromise (before 6 20) Rising (Monotonic.Yes 1)
-unfolding monotonic within
-fall-first-21 = record { number = refl; yes = refl; count = refl }
-
-rise-last-20 : MonotonicPromise (after 19 6) Falling (Monotonic.No 1)
-unfolding monotonic within
-rise-last-20 = record { number = refl; yes = refl; count = refl }
-
-rise-last-21 : MonotonicPromise (after 20 6) Falling (Monotonic.Yes 1)
-unfolding monotonic within
-rise-last-21 = record { number = refl; yes = refl; count = refl }
-
-rise-first-20 : MonotonicPromise (before 4 19) Falling (Monotonic.No 1)
-unfolding monotonic within
-rise-first-20 = record { number = refl; yes = refl; count = refl }
-
-rise-first-21 : MonotonicPromise (before 4 20) Falling (Monotonic.Yes 1)
-unfolding monotonic within
-rise-first-21 = record { number = refl; yes = refl; count = refl }
-
--- a rise is no violation where the direction is rising
-rise-rising : MonotonicPromise (after 19 6) Rising (Monotonic.Yes 0)
-unfolding monotonic within
-rise-rising = record { number = refl; yes = refl; count = refl }
-
--- none and one entry have no violations, and one pair that falls is all of them
-empty-monotonic : MonotonicPromise [] Falling (Monotonic.Yes 0)
-unfolding monotonic within
-empty-monotonic = record { number = refl; yes = refl; count = refl }
-
-pair-falls : MonotonicPromise (2 ∷ 1 ∷ []) Rising (Monotonic.No 1)
-unfolding monotonic within
-pair-falls = record { number = refl; yes = refl; count = refl }
-
--- a run of 19 at an end is none that counts, one of 20 is: at the first entry and at the last
-first-19 : DegeneratedPromise (after 19 6) Degenerated.No
-unfolding degenerated leading within
-first-19 = record { number = refl; yes = refl }
-
-first-20 : DegeneratedPromise (after 20 6) Degenerated.Yes
-unfolding degenerated leading within
-first-20 = record { number = refl; yes = refl }
-
-last-19 : DegeneratedPromise (before 6 19) Degenerated.No
-unfolding degenerated leading within
-last-19 = record { number = refl; yes = refl }
-
-last-20 : DegeneratedPromise (before 6 20) Degenerated.Yes
-unfolding degenerated leading within
-last-20 = record { number = refl; yes = refl }
-
--- five percent at either end is none: a run of 5 at both ends of 101 entries, and 91 alike between them
-percent : DegeneratedPromise (replicate 5 0 ++ (replicate 91 5 ++ replicate 5 9)) Degenerated.No
-unfolding degenerated leading within
-percent = record { number = refl; yes = refl }
-
--- one entry is not degenerated, and twenty alike are
-single : DegeneratedPromise (5 ∷ []) Degenerated.No
-unfolding degenerated leading within
-single = record { number = refl; yes = refl }
-
-flat : DegeneratedPromise (replicate 20 5) Degenerated.Yes
-unfolding degenerated leading within
-flat = record { number = refl; yes = refl }
+-- five in a hundred at both ends are no run that counts, and twenty in the middle are none; fewer than two entries have none; twenty alike are one
+no-percentage :
+    (degeneratedAnswer (replicate 5 0 ++ (replicate 90 5 ++ replicate 5 9)) ≡ Degenerated.No)
+    × (degeneratedAnswer (1 ∷ (replicate 20 5 ++ (9 ∷ []))) ≡ Degenerated.No)
+    × (degeneratedAnswer [] ≡ Degenerated.No)
+    × (degeneratedAnswer (5 ∷ []) ≡ Degenerated.No)
+    × (degeneratedAnswer (replicate 20 5) ≡ Degenerated.Yes)
+unfolding degeneratedAnswer degenerated leading within
+no-percentage = (refl, refl, refl, refl, refl)
 
 -- 65,537 entries are refused
 monotonic-65537 : (x : ℕ) (d : Direction) → MonotonicPromise (replicate 65537 x) d (Monotonic.Refused TableLength)

@@ -11,14 +11,14 @@ returns c = entry-beyond _ (c .if1 .taken)
 curve-requires : tie.Need-curve-requires
 curve-requires c κs = search needs
 
-mul-t6 : tie.Need-mul-t6
-mul-t6 c = search needs
+mul-density : tie.Need-mul-density
+mul-density c = search needs
 
-array-read-t9 : tie.Need-array-read-t9
-array-read-t9 c = search needs
+array-read-density : tie.Need-array-read-density
+array-read-density c = search needs
 
 returns-2 : tie.Need-returns-2
 returns-2 c = entry-given _ (c .before .if1 .left) _ (c .curve .ensures .rule _ (omega arith))
 
 pub entry-spec : {M : Type 1} → statement M
-entry-spec = tie.close (tie.spec returns curve-requires mul-t6 array-read-t9 returns-2)
+entry-spec = tie.close (tie.spec returns curve-requires mul-density array-read-density returns-2)
