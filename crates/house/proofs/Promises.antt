@@ -25,13 +25,13 @@ one-after : (v : Verdict) (out a b : List ℕ) → whenGranted v (IsHouse a) (a 
 one-after granted out a b p q = one-house a b p q
 one-after (refused why) out a b p q = p ∙ sym q
 
-pub one-answer : (i : ℕ) (r s : Looked) → EntryPromise i r → EntryPromise i s → r ≡ s
-one-answer i r s p q =
+pub entry-one : (i : ℕ) (r s : Looked) → EntryPromise i r → EntryPromise i s → r ≡ s
+entry-one i r s p q =
     same-looked r s (p .number ∙ sym (q .number))
     (one-value (entryVerdict i) i (valueOfLooked r) (valueOfLooked s) (p .value) (q .value))
 
-pub one-fill : (out : List ℕ) (r s : Done) (a b : List ℕ) → FillPromise out r a → FillPromise out s b → (r ≡ s) × (a ≡ b)
-one-fill out r s a b p q = (
+pub fill-one : (out : List ℕ) (r s : Done) (a b : List ℕ) → FillPromise out r a → FillPromise out s b → (r ≡ s) × (a ≡ b)
+fill-one out r s a b p q = (
   same-done r s (p .number ∙ sym (q .number)),
   one-after (fillVerdict out) out a b (p .after) (q .after),
 )

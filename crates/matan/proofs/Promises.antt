@@ -2,13 +2,12 @@
 use mathlib.Core.Path.{_≡_, _∙_, refl, sym}
 use mathlib.Core.Bool.{Bool, true, false}
 use mathlib.Core.List.{List}
-use Prim.Native.Nat.{ℕ, _*_, _≤_, _<_, zero-le}
+use Prim.Native.Nat.{ℕ, _*_, _≤_, _<_}
 use borrow.Author.Tests.{lt-ltb, le-ltb, le-leb, lt-leb}
 use lib.ListN.{length}
 use Rattle.table.specs.Choice.{pick}
-use Rattle.table.specs.Sizes.{within}
+use Rattle.table.specs.Sizes.{notAbove}
 use Rattle.table.specs.declared.Refusal.the-variants.{TableLength}
-use Rattle.table.proofs.Sizes.{within-is}
 use Rattle.matan.specs.Steps.{violations, monotonic}
 use Rattle.matan.specs.Runs.{leading, trailing, degenerated}
 use Rattle.matan.specs.Promises.{MonotonicPromise, DegeneratedPromise}
@@ -18,27 +17,27 @@ use Rattle.matan.specs.declared.degeneration.Degenerated.{Degenerated}
 use Rattle.matan.proofs.Answers.{same-monotonic, same-degenerated}
 use Rattle.matan.proofs.Steps.{short-none}
 
-pub one-monotonic : (t : List ℕ) (d : Direction) (r s : Monotonic) → MonotonicPromise t d r → MonotonicPromise t d s → r ≡ s
-one-monotonic t d r s p q =
+pub monotonic-one : (t : List ℕ) (d : Direction) (r s : Monotonic) → MonotonicPromise t d r → MonotonicPromise t d s → r ≡ s
+monotonic-one t d r s p q =
     same-monotonic r s (p .number ∙ sym (q .number)) (p .yes ∙ sym (q .yes)) (p .count ∙ sym (q .count))
 
-pub one-degenerated : (t : List ℕ) (r s : Degenerated) → DegeneratedPromise t r → DegeneratedPromise t s → r ≡ s
-one-degenerated t r s p q = same-degenerated r s (p .number ∙ sym (q .number)) (p .yes ∙ sym (q .yes))
+pub degenerated-one : (t : List ℕ) (r s : Degenerated) → DegeneratedPromise t r → DegeneratedPromise t s → r ≡ s
+degenerated-one t r s p q = same-degenerated r s (p .number ∙ sym (q .number)) (p .yes ∙ sym (q .yes))
 
 -- the test of the length fails above 65,536 entries
-pub too-long : (n : ℕ) → 65536 < n → within 0 65536 n ≡ false
-too-long n h = within-is 0 65536 n zero-le ∙ lt-leb n 65536 h
+pub too-long : (n : ℕ) → 65536 < n → notAbove n ≡ false
+too-long n h = lt-leb n 65536 h
 
 -- past the tests of the length that both routines make first
 pub record Judged (t : List ℕ) : Type 0 where
-  pub fits : within 0 65536 (length t) ≡ true
+  pub fits : notAbove (length t) ≡ true
   pub two : 2 ≤ length t
 
 module _ (t : List ℕ) (d : Direction) where
-  pub monotonic-long : within 0 65536 (length t) ≡ false → MonotonicPromise t d (Monotonic.Refused TableLength)
+  pub monotonic-long : notAbove (length t) ≡ false → MonotonicPromise t d (Monotonic.Refused TableLength)
   monotonic-long e = record { number = simp e; yes = simp e; count = simp e }
 
-  pub monotonic-short : within 0 65536 (length t) ≡ true → length t < 2 → MonotonicPromise t d (Monotonic.Yes 0)
+  pub monotonic-short : notAbove (length t) ≡ true → length t < 2 → MonotonicPromise t d (Monotonic.Yes 0)
   unfolding monotonic
   monotonic-short e h =
       record { number = simp e; yes = simp (e, lt-ltb (length t) 2 h); count = simp (e, short-none d t h) }
@@ -65,24 +64,24 @@ module _ (t : List ℕ) (d : Direction) where
   -- the answer that the promise names
   unfoldable pub monotonicAnswer : Monotonic
   monotonicAnswer =
-      pick (within 0 65536 (length t))
+      pick (notAbove (length t))
       (pick (monotonic d t) (Monotonic.Yes (violations d t)) (Monotonic.No (violations d t)))
       (Monotonic.Refused TableLength)
 
   pub monotonic-answered : MonotonicPromise t d monotonicAnswer
   unfolding monotonicAnswer
-  monotonic-answered = go (within 0 65536 (length t)) (monotonic d t) refl refl
+  monotonic-answered = go (notAbove (length t)) (monotonic d t) refl refl
     where
-      go : (f m : Bool) → within 0 65536 (length t) ≡ f → monotonic d t ≡ m → MonotonicPromise t d (pick f (pick m (Monotonic.Yes (violations d t)) (Monotonic.No (violations d t))) (Monotonic.Refused TableLength))
+      go : (f m : Bool) → notAbove (length t) ≡ f → monotonic d t ≡ m → MonotonicPromise t d (pick f (pick m (Monotonic.Yes (violations d t)) (Monotonic.No (violations d t))) (Monotonic.Refused TableLength))
       go false m e k = monotonic-long e
       go true true e k = record { number = simp e; yes = simp (e, k); count = simp e }
       go true false e k = record { number = simp e; yes = simp (e, k); count = simp e }
 
 module _ (t : List ℕ) where
-  pub degenerated-long : within 0 65536 (length t) ≡ false → DegeneratedPromise t (Degenerated.Refused TableLength)
+  pub degenerated-long : notAbove (length t) ≡ false → DegeneratedPromise t (Degenerated.Refused TableLength)
   degenerated-long e = record { number = simp e; yes = simp e }
 
-  pub degenerated-short : within 0 65536 (length t) ≡ true → length t < 2 → DegeneratedPromise t Degenerated.No
+  pub degenerated-short : notAbove (length t) ≡ true → length t < 2 → DegeneratedPromise t Degenerated.No
   unfolding degenerated
   degenerated-short e h = record { number = simp e; yes = simp (e, lt-ltb (length t) 2 h) }
 
@@ -105,13 +104,13 @@ module _ (t : List ℕ) where
   -- the answer that the promise names
   unfoldable pub degeneratedAnswer : Degenerated
   degeneratedAnswer =
-      pick (within 0 65536 (length t)) (pick (degenerated t) Degenerated.Yes Degenerated.No) (Degenerated.Refused TableLength)
+      pick (notAbove (length t)) (pick (degenerated t) Degenerated.Yes Degenerated.No) (Degenerated.Refused TableLength)
 
   pub degenerated-answered : DegeneratedPromise t degeneratedAnswer
   unfolding degeneratedAnswer
-  degenerated-answered = go (within 0 65536 (length t)) (degenerated t) refl refl
+  degenerated-answered = go (notAbove (length t)) (degenerated t) refl refl
     where
-      go : (f m : Bool) → within 0 65536 (length t) ≡ f → degenerated t ≡ m → DegeneratedPromise t (pick f (pick m Degenerated.Yes Degenerated.No) (Degenerated.Refused TableLength))
+      go : (f m : Bool) → notAbove (length t) ≡ f → degenerated t ≡ m → DegeneratedPromise t (pick f (pick m Degenerated.Yes Degenerated.No) (Degenerated.Refused TableLength))
       go false m e k = degenerated-long e
       go true true e k = record { number = simp e; yes = simp (e, k) }
       go true false e k = record { number = simp e; yes = simp (e, k) }

@@ -3,8 +3,7 @@ use mathlib.Core.Path.{_≡_, refl}
 use mathlib.Core.List.{List, [], _∷_, _++_}
 use Prim.Native.Nat.{ℕ}
 use native.Mathlib.Omega.{arith}
-use lib.ListN.{replicate, length-replicate}
-use Rattle.table.specs.Sizes.{within}
+use lib.ListN.{length, replicate, length-replicate}
 use Rattle.table.specs.declared.Refusal.the-variants.{TableLength}
 use Rattle.matan.specs.Steps.{monotonic}
 use Rattle.matan.specs.Runs.{leading, degenerated}
@@ -32,7 +31,7 @@ one-violation :
     × (monotonicAnswer (after 20 6) Falling ≡ Monotonic.Yes 1)
     × (monotonicAnswer (before 4 19) Falling ≡ Monotonic.No 1)
     × (monotonicAnswer (before 4 20) Falling ≡ Monotonic.Yes 1)
-unfolding monotonicAnswer monotonic within
+unfolding monotonicAnswer monotonic
 one-violation = (refl, refl, refl, refl, refl, refl, refl, refl)
 
 -- a rise is none where the direction is rising, nor are equal neighbours either way; fewer than two entries have none; a pair that falls has one, and no
@@ -43,7 +42,7 @@ few-violations :
     × (monotonicAnswer [] Rising ≡ Monotonic.Yes 0)
     × (monotonicAnswer (5 ∷ []) Falling ≡ Monotonic.Yes 0)
     × (monotonicAnswer (6 ∷ 5 ∷ []) Rising ≡ Monotonic.No 1)
-unfolding monotonicAnswer monotonic within
+unfolding monotonicAnswer monotonic
 few-violations = (refl, refl, refl, refl, refl, refl)
 
 -- a run of 19 at an end is too short and one of 20 is not: at the first entry, and at the last
@@ -52,7 +51,7 @@ end-runs :
     × (degeneratedAnswer (after 20 6) ≡ Degenerated.Yes)
     × (degeneratedAnswer (before 6 19) ≡ Degenerated.No)
     × (degeneratedAnswer (before 6 20) ≡ Degenerated.Yes)
-unfolding degeneratedAnswer degenerated leading within
+unfolding degeneratedAnswer degenerated leading
 end-runs = (refl, refl, refl, refl)
 
 -- five in a hundred at both ends are no run that counts, and twenty in the middle are none; fewer than two entries have none; twenty alike are one
@@ -62,12 +61,12 @@ no-percentage :
     × (degeneratedAnswer [] ≡ Degenerated.No)
     × (degeneratedAnswer (5 ∷ []) ≡ Degenerated.No)
     × (degeneratedAnswer (replicate 20 5) ≡ Degenerated.Yes)
-unfolding degeneratedAnswer degenerated leading within
+unfolding degeneratedAnswer degenerated leading
 no-percentage = (refl, refl, refl, refl, refl)
 
 -- 65,537 entries are refused
 monotonic-65537 : (x : ℕ) (d : Direction) → MonotonicPromise (replicate 65537 x) d (Monotonic.Refused TableLength)
-monotonic-65537 x d = monotonic-long _ d (too-long _ (omega (arith, length-replicate 65537 x)))
+monotonic-65537 x d = monotonic-long _ d (too-long (length (replicate 65537 x)) (omega (arith, length-replicate 65537 x)))
 
 degenerated-65537 : (x : ℕ) → DegeneratedPromise (replicate 65537 x) (Degenerated.Refused TableLength)
-degenerated-65537 x = degenerated-long _ (too-long _ (omega (arith, length-replicate 65537 x)))
+degenerated-65537 x = degenerated-long _ (too-long (length (replicate 65537 x)) (omega (arith, length-replicate 65537 x)))

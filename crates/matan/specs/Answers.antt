@@ -1,4 +1,4 @@
--- The paper's number and values for each case of a verdict: a granted one has number 0, and a refused one has 0 in every other place.
+-- Document 01's number and values for each case of a verdict: a granted one has number 0, and a refused one has 0 in every other place.
 -- Assumes nothing.
 use Prim.Native.Nat.{ℕ}
 use mathlib.Core.Bool.{Bool, true, false}

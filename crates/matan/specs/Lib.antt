@@ -1,4 +1,4 @@
--- `Steps` and `Runs`: what the verdicts count. `Answers`: the paper's number and values of each. `Promises`: what the two calls promise.
+-- `Steps` and `Runs`: what the verdicts count. `Answers`: document 01's number and values of each. `Promises`: what the two calls promise.
 -- `Inside`: what inner functions say.
 pub mod Answers
 pub mod Steps

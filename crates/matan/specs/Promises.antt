@@ -3,7 +3,7 @@ use Prim.Native.Nat.{ℕ}
 use mathlib.Core.Path.{_≡_}
 use mathlib.Core.List.{List}
 use lib.ListN.{length}
-use Rattle.table.specs.Sizes.{within}
+use Rattle.table.specs.Sizes.{notAbove}
 use Rattle.table.specs.Refusals.{Verdict, granted, rung, numberIn, ifGranted}
 use Rattle.table.specs.declared.Refusal.the-variants.{TableLength}
 use Rattle.matan.specs.Answers.{yesNo, numberOfMonotonic, yesOfMonotonic, violationsOfMonotonic, numberOfDegenerated, yesOfDegenerated}
@@ -15,7 +15,7 @@ use Rattle.matan.specs.declared.degeneration.Degenerated.{Degenerated}
 
 -- Both verdicts: refused for the table's length, 1, and only above 65,536.
 abbrev pub shapeVerdict : List ℕ → Verdict
-shapeVerdict t = rung (within 0 65536 (length t)) TableLength granted
+shapeVerdict t = rung (notAbove (length t)) TableLength granted
 
 pub record MonotonicPromise (t : List ℕ) (d : Direction) (r : Monotonic) : Type 0 where
   pub number : numberOfMonotonic r ≡ numberIn (shapeVerdict t)

@@ -1,7 +1,7 @@
 // Whether a curve stands still over twenty entries or more at an end.
 use table::Refusal;
 use table::inside::entry;
-use table::within;
+use table::not_above;
 ghost use mathlib.Core.Path.{_≡_};
 ghost use Prim.Native.Nat.{_<_};
 ghost use lib.ListN.{length, getD};
@@ -53,7 +53,7 @@ fn run(table: &[u16], end: End) -> usize
 pub fn is_curve_degenerated(table: &[u16]) -> Degenerated
     ensures { λ r. ⌜ DegeneratedPromise (now (table .entry)) r ⌝ }
 {
-    if !within(0, 65536, table.len()) {
+    if !not_above(table.len()) {
         return Degenerated::Refused(Refusal::TableLength);
     }
     if table.len() < 2 {

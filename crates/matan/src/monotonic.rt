@@ -1,7 +1,7 @@
 // Whether a curve goes one way, but for a few steps against it.
 use table::Refusal;
 use table::inside::entry;
-use table::within;
+use table::not_above;
 ghost use mathlib.Core.Path.{_≡_};
 ghost use Prim.Native.Nat.{_≤_};
 ghost use Rattle.matan.specs.Answers.{yesNo};
@@ -48,7 +48,7 @@ fn violations(table: &[u16], direction: Direction) -> usize
 pub fn is_curve_monotonic(table: &[u16], direction: Direction) -> Monotonic
     ensures { λ r. ⌜ MonotonicPromise (now (table .entry)) direction r ⌝ }
 {
-    if !within(0, 65536, table.len()) {
+    if !not_above(table.len()) {
         return Monotonic::Refused(Refusal::TableLength);
     }
     if table.len() < 2 {

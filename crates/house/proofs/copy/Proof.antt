@@ -1,13 +1,15 @@
--- `copy` meets its contract. The invariant: the buffer holds the curve's first i entries, and is as long as the curve. Assumes nothing.
+-- `copy` meets its contract: the loop fills the buffer with the curve's entries. Assumes nothing.
 use Prim.Native.Nat.{_-_}
 use native.Mathlib.Omega.{arith}
 use borrow.Author.Needs.{needs}
-use Rattle.house.proofs.Copied.{Copied, copied-none, copied-more, copied-all}
+use mathlib.Core.Path.{refl}
+use Rattle.table.proofs.Fill.{Filling, filling-start, filling-length, filling-more, filling-done}
+use Rattle.house.proofs.Copied.{entryOf, copied}
 use Rattle.house.proofs.copy.Statement.{statement}
 use Rattle.house.proofs.copy.Tie as tie
 
 abbrev Inv-loop : tie.InvT-loop
-Inv-loop out₀ curve i₀ out i = Copied curve out₀ out i
+Inv-loop out₀ curve i₀ out i = Filling (entryOf curve) out₀ i out
 
 abbrev μ-loop : tie.MeasureT-loop
 μ-loop out₀ curve i₀ out i = 1024 - i
@@ -16,7 +18,7 @@ curve-requires : tie.Need-curve-requires Inv-loop μ-loop
 curve-requires c κs = search needs
 
 loop-holds : tie.Need-loop-holds Inv-loop μ-loop
-loop-holds c = copied-none _ _ (c .before .before .pre)
+loop-holds c = filling-start _ _
 
 mul-out : tie.Need-mul-out Inv-loop μ-loop
 mul-out c = omega arith
@@ -28,7 +30,7 @@ mul-out-2 : tie.Need-mul-out-2 Inv-loop μ-loop
 mul-out-2 c = omega arith
 
 slice-write-out : tie.Need-slice-write-out Inv-loop μ-loop
-slice-write-out c = omega arith
+slice-write-out c = omega (arith, filling-length _ (c .before .loop .inv))
 
 add-i : tie.Need-add-i Inv-loop μ-loop
 add-i c = omega arith
@@ -37,23 +39,15 @@ loop-less : tie.Need-loop-less Inv-loop μ-loop
 loop-less c = omega arith
 
 loop-again : tie.Need-loop-again Inv-loop μ-loop
-loop-again c =
-    copied-more _ _ (c .before .before .before .before .pre) _ _ (c .before .loop .inv) (c .loop-test .taken)
+loop-again c = filling-more _ (c .before .loop .inv) (omega arith) refl
 
 same-length : tie.Need-same-length Inv-loop μ-loop
-same-length c = omega arith
+same-length c = filling-length _ (c .before .loop .inv)
 
 returns : tie.Need-returns Inv-loop μ-loop
 returns c =
-    copied-all
-    _
-    _
-    (c .before .before .before .before .pre)
-    _
-    _
-    (c .before .loop .inv)
-    (c .loop-test .left)
-    (c .before .before .curve .ensures)
+    let s = c .before .before .before .before in
+    copied _ _ (filling-done _ (c .before .loop .inv) (s .pre) (c .loop-test .left)) (c .before .before .curve .ensures)
 
 pub copy-spec : {M : Type 1} → statement M
 copy-spec =

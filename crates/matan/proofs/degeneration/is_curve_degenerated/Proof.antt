@@ -9,19 +9,19 @@ use Rattle.matan.proofs.Promises.{degenerated-long, degenerated-short, 
 use Rattle.matan.proofs.degeneration.is_curve_degenerated.Statement.{statement}
 use Rattle.matan.proofs.degeneration.is_curve_degenerated.Tie as tie
 
-within-requires : tie.Need-within-requires
-within-requires c κs = search needs
+not-above-requires : tie.Need-not-above-requires
+not-above-requires c κs = search needs
 
 returns : tie.Need-returns
-returns c = degenerated-long _ (fails (c .before .within .ensures) (c .if1 .taken))
+returns c = degenerated-long _ (fails (c .before .not-above .ensures) (c .if1 .taken))
 
 returns-2 : tie.Need-returns-2
 returns-2 c =
-    degenerated-short _ (holds (c .before .before .within .ensures) (c .before .if1 .left)) (c .if2 .taken)
+    degenerated-short _ (holds (c .before .before .not-above .ensures) (c .before .if1 .left)) (c .if2 .taken)
 
 -- past both tests of the length
 judged : (c : tie.Else2) → Judged (now (c .before .before .before .before .args .table))
-judged c = record { fits = holds (c .before .before .within .ensures) (c .before .if1 .left); two = c .if2 .left }
+judged c = record { fits = holds (c .before .before .not-above .ensures) (c .before .if1 .left); two = c .if2 .left }
 
 run-requires : tie.Need-run-requires
 run-requires c κs = search needs
@@ -50,7 +50,7 @@ pub is-curve-degenerated-spec : {M : Type 1} → statement M
 is-curve-degenerated-spec =
     tie.close
     (tie.spec
-    within-requires
+    not-above-requires
     returns
     returns-2
     run-requires
