@@ -1,0 +1,3 @@
+-- `Numbers`: a number's bytes make the number, and a number made of bytes has those bytes. `Opening`: the tests on a tag's first bytes.
+pub mod Numbers
+pub mod Opening

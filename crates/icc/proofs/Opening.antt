@@ -1,0 +1,53 @@
+-- The test that given bytes stand somewhere, and the bytes that stand there, each from the other. Assumes nothing.
+use mathlib.Core.Path.{_≡_, _∙_, refl, sym, ap}
+use mathlib.Core.Bool.{Bool, true, false}
+use mathlib.Core.List.{List, [], _∷_, _++_, append-assoc}
+use Prim.Native.Nat.{ℕ, suc, _+_, _≤_}
+use native.Mathlib.Numerals.{add-one}
+use native.Mathlib.Omega.{arith}
+use borrow.Author.Tests.{eqb-true, eq-eqb, ne-eqb}
+use lib.ListN.{length, getD, take, drop, length-append}
+use lib.Seq.{drop-cons, getD-at}
+use lib.Dec.{eqb}
+use Rattle.table.specs.Choice.{both}
+use Rattle.table.proofs.Choice.{both-left, both-right}
+use Rattle.icc.specs.Opening.{stands}
+
+-- The test, byte by byte: the first one that differs settles it, an equal one leaves it to the rest, and a last one decides alone.
+module _ (b : List ℕ) (i x : ℕ) where
+  pub differs : (l : List ℕ) → (getD b i 0 ≡ x → ⊥) → false ≡ stands b i (x ∷ l)
+  unfolding stands
+  differs l n = simp (ne-eqb _ _ n)
+
+  pub agrees : (l : List ℕ) → getD b i 0 ≡ x → stands b (i + 1) l ≡ stands b i (x ∷ l)
+  unfolding stands
+  agrees l e = simp (eq-eqb _ _ e)
+
+  pub alone : eqb (getD b i 0) x ≡ stands b i (x ∷ [])
+  unfolding stands
+  alone = sym (both-true (eqb (getD b i 0) x))
+    where
+      both-true : (t : Bool) → both t true ≡ t
+      both-true true = refl
+      both-true false = refl
+
+-- where the test holds, the bytes that stand there are those listed
+pub stands-bytes : (b : List ℕ) (i : ℕ) (l : List ℕ) → i + length l ≤ length b → stands b i l ≡ true → take (length l) (drop i b) ≡ l
+unfolding stands
+stands-bytes b i [] h e = refl
+stands-bytes b i (x ∷ l) h e =
+    let here : getD b i 0 ≡ x = eqb-true _ _ (both-left (eqb (getD b i 0) x) (stands b (i + 1) l) e) in
+    let rest : take (length l) (drop (i + 1) b) ≡ l
+    = stands-bytes b (i + 1) l (omega arith) (both-right (eqb (getD b i 0) x) (stands b (i + 1) l) e) in
+    rw (drop-cons b i 0 (omega arith), here, ← add-one i, rest) refl
+
+-- and where they stand, it holds
+pub bytes-stand : (p l q : List ℕ) (i : ℕ) → length p ≡ i → stands (p ++ (l ++ q)) i l ≡ true
+unfolding stands
+bytes-stand p [] q i e = refl
+bytes-stand p (x ∷ l) q i e =
+    let here : eqb (getD (p ++ (x ∷ (l ++ q))) i 0) x ≡ true = eq-eqb _ _ (getD-at p x (l ++ q) 0 i e) in
+    let long : length (p ++ (x ∷ [])) ≡ i + 1 = simp length-append (omega arith) in
+    let rest : stands (p ++ (x ∷ (l ++ q))) (i + 1) l ≡ true
+    = rw (← append-assoc p (x ∷ []) (l ++ q)) (bytes-stand (p ++ (x ∷ [])) l q (i + 1) long) in
+    simp (here, rest)
