@@ -7,11 +7,11 @@ use native.Mathlib.Numerals.{add-one}
 use native.Mathlib.Omega.{arith}
 use borrow.Author.Tests.{eqb-true, eq-eqb, ne-eqb}
 use lib.ListN.{length, getD, take, drop, length-append}
-use lib.Seq.{drop-cons, getD-at}
+use lib.Seq.{drop-cons, getD-at, take-add}
 use lib.Dec.{eqb}
 use Rattle.table.specs.Choice.{both}
 use Rattle.table.proofs.Choice.{both-left, both-right}
-use Rattle.icc.specs.Opening.{stands}
+use Rattle.icc.specs.Opening.{stands, signedBy, reservedZero, opening}
 
 -- The test, byte by byte: the first one that differs settles it, an equal one leaves it to the rest, and a last one decides alone.
 module _ (b : List ℕ) (i x : ℕ) where
@@ -51,3 +51,17 @@ bytes-stand p (x ∷ l) q i e =
     let rest : stands (p ++ (x ∷ (l ++ q))) (i + 1) l ≡ true
     = rw (← append-assoc p (x ∷ []) (l ++ q)) (bytes-stand (p ++ (x ∷ [])) l q (i + 1) long) in
     simp (here, rest)
+
+-- The first eight bytes of a tag, from the tests on them, and the tests from the bytes.
+module _ (p q r s : ℕ) where
+  pub opens : (b : List ℕ) → 8 ≤ length b → signedBy p q r s b ≡ true → reservedZero b ≡ true → take 8 b ≡ opening p q r s
+  opens b h signed zeros =
+      take-add 4 4 b
+      ∙ ap (λ (l : List ℕ). l ++ take 4 (drop 4 b)) (stands-bytes b 0 (p ∷ q ∷ r ∷ s ∷ []) (omega arith) signed)
+      ∙ ap (λ (l : List ℕ). p ∷ q ∷ r ∷ s ∷ l) (stands-bytes b 4 (0 ∷ 0 ∷ 0 ∷ 0 ∷ []) h zeros)
+
+  pub opening-signed : (l : List ℕ) → signedBy p q r s (opening p q r s ++ l) ≡ true
+  opening-signed l = bytes-stand [] (p ∷ q ∷ r ∷ s ∷ []) (0 ∷ 0 ∷ 0 ∷ 0 ∷ l) 0 refl
+
+  pub opening-zeros : (l : List ℕ) → reservedZero (opening p q r s ++ l) ≡ true
+  opening-zeros l = bytes-stand (p ∷ q ∷ r ∷ s ∷ []) (0 ∷ 0 ∷ 0 ∷ 0 ∷ []) l 4 refl
