@@ -47,14 +47,15 @@ module _ (b : List ℕ) where
         unfolding tagVerdict
         many h = simp (le-leb _ _ twelve, signed, zeros, lt-leb _ _ h)
 
-        module _ (few : countOf b ≤ 65536) where
-          pub unwhole : total (countOf b) (length b) ≡ false → tagVerdict b ≡ refused TagLength
+        -- n being the count as it was read
+        module _ (n : ℕ) (read : n ≡ countOf b) (few : n ≤ 65536) where
+          pub unwhole : total n (length b) ≡ false → tagVerdict b ≡ refused TagLength
           unfolding tagVerdict
-          unwhole e = simp (le-leb _ _ twelve, signed, zeros, le-leb _ _ few, e)
+          unwhole e = rw (← read) (simp (le-leb _ _ twelve, signed, zeros, le-leb _ _ few, e))
 
-          pub right : total (countOf b) (length b) ≡ true → tagVerdict b ≡ granted
+          pub right : total n (length b) ≡ true → tagVerdict b ≡ granted
           unfolding tagVerdict
-          right e = simp (le-leb _ _ twelve, signed, zeros, le-leb _ _ few, e)
+          right e = rw (← read) (simp (le-leb _ _ twelve, signed, zeros, le-leb _ _ few, e))
 
 -- what a tag is that passes them all
 pub record Readable (b : List ℕ) : Type 0 where
@@ -75,4 +76,4 @@ readable b e =
     record { twelve = leb-true _ _ (p .0); signed = q .0; zeros = r .0; few = leb-true _ _ (s .0); whole = t .0 }
 
 pub grants : (b : List ℕ) → Readable b → tagVerdict b ≡ granted
-grants b r = right b (r .twelve) (r .signed) (r .zeros) (r .few) (r .whole)
+grants b r = right b (r .twelve) (r .signed) (r .zeros) (countOf b) refl (r .few) (r .whole)

@@ -101,7 +101,7 @@ pub fn entry_bytes<'a, 'b>(tag: &'a [u8], why: &'b mut u32) -> &'a [u8]
 // The first twelve bytes of a tag of n entries.
 fn put_head(out: &mut [u8], n: u32)
     requires { ⌜ 12 ≤ length (now out) ⌝ }
-    ensures { λ _. ⌜ (length (now (out .exit)) ≡ length (now (out .entry))) × (take 12 (now (out .exit)) ≡ head n) ⌝ }
+    ensures { λ _. ⌜ take 12 (now (out .exit)) ≡ head n ⌝ }
 {
     put_opening(out, 0x63, 0x75, 0x72, 0x76);
     put_u32(out, 8, n);
