@@ -1,14 +1,12 @@
 -- How each promise is met, case by case; what an answer that keeps it tells; and that it names one answer and one later state. Assumes nothing.
 use mathlib.Core.Path.{_≡_, _∙_, refl, sym, ap}
 use mathlib.Core.List.{List, []}
-use Prim.Native.Nat.{ℕ, _<_, _≤_}
+use Prim.Native.Nat.{ℕ, _+_, _*_, _<_, _≤_}
 use native.Mathlib.Omega.{arith}
 use borrow.Author.Tests.{le-leb, lt-leb, eq-eqb, ne-eqb, leb-true, eqb-true}
 use denote.Ref.{RefT, now}
 use lib.ListN.{length}
-use lib.Dec.{leb, eqb}
-use Rattle.table.specs.Refusals.{numberOf, Verdict, granted, refused, rung, numberIn, ifGranted}
-use Rattle.table.specs.Answers.{numberOfDone}
+use Rattle.table.specs.Refusals.{numberOf, Verdict, granted, refused, numberIn, ifGranted}
 use Rattle.table.specs.Fill.{tabulated}
 use Rattle.table.specs.declared.Done.{Done}
 use Rattle.table.specs.declared.Refusal.{Refusal}
@@ -19,6 +17,7 @@ use Rattle.curv.specs.declared.Counted.{Counted}
 use Rattle.curv.specs.Answers.{numberOfCounted, valueOfCounted}
 use Rattle.curv.specs.Tag.{countOf, entryAt, entriesOf, partOf, tagOf, tagLength}
 use Rattle.curv.specs.Promises.{tagVerdict, andThen, CountPromise, readVerdict, ReadPromise, past, PartPromise, writeVerdict, WritePromise}
+use Rattle.curv.proofs.Checks.{readable, total-room}
 
 -- a verdict's number and what it gives, both from the verdict itself
 verdict-number : {v w : Verdict} → v ≡ w → numberIn w ≡ numberIn v
@@ -26,6 +25,13 @@ verdict-number e = ap numberIn (sym e)
 
 verdict-gives : {A : Type 0} {v w : Verdict} (given otherwise : A) → v ≡ w → ifGranted w given otherwise ≡ ifGranted v given otherwise
 verdict-gives given otherwise e = ap (λ (v : Verdict). ifGranted v given otherwise) (sym e)
+
+-- a tag that is granted, and has n entries
+pub record Granted (b : List ℕ) (n : ℕ) : Type 0 where
+  pub verdict : tagVerdict b ≡ granted
+  pub count : countOf b ≡ n
+  pub few : n ≤ 65536
+  pub room : 12 + 2 * n ≤ length b
 
 -- Counting.
 module _ (b : List ℕ) where
@@ -35,13 +41,17 @@ module _ (b : List ℕ) where
   pub count-granted : (n : ℕ) → tagVerdict b ≡ granted → n ≡ countOf b → CountPromise b (Counted.Entries n)
   count-granted n e c = record { number = verdict-number e; value = c ∙ verdict-gives (countOf b) 0 e }
 
-  pub refused-count : (why : Refusal) → CountPromise b (Counted.Refused why) → tagVerdict b ≡ refused why
-  refused-count why p = sym (same-verdict (refused why) (tagVerdict b) (p .number))
+  -- what the answer r of a count tells
+  module _ (r : Counted) (p : CountPromise b r) where
+    pub refused-count : (why : Refusal) → r ≡ Counted.Refused why → tagVerdict b ≡ refused why
+    refused-count why e = sym (same-verdict (refused why) (tagVerdict b) (ap numberOfCounted (sym e) ∙ p .number))
 
-  pub granted-count : (n : ℕ) → CountPromise b (Counted.Entries n) → (tagVerdict b ≡ granted) × (countOf b ≡ n)
-  granted-count n p =
-      let e : tagVerdict b ≡ granted = sym (same-verdict granted (tagVerdict b) (p .number)) in
-      (e, verdict-gives (countOf b) 0 e ∙ sym (p .value))
+    pub granted-count : (n : ℕ) → r ≡ Counted.Entries n → Granted b n
+    granted-count n e =
+        let g : tagVerdict b ≡ granted = sym (same-verdict granted (tagVerdict b) (ap numberOfCounted (sym e) ∙ p .number)) in
+        let c : countOf b ≡ n = verdict-gives (countOf b) 0 g ∙ sym (p .value) ∙ ap valueOfCounted e in
+        let ok = readable b g in
+        record { verdict = g; count = c; few = omega arith; room = omega (arith, total-room (countOf b) (length b) (ok .whole)) }
 
 -- Reading.
 and-then-granted : (v w : Verdict) → andThen v w ≡ granted → (v ≡ granted) × (w ≡ granted)

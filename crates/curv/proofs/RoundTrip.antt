@@ -1,27 +1,25 @@
 -- What is written reads back the same, and tag bytes that are read are written back the same: of any calls that keep the promises. Assumes nothing.
 use mathlib.Core.Path.{_≡_, _∙_, refl, sym, ap}
-use mathlib.Core.List.{List, [], _∷_, _++_, append-assoc}
+use mathlib.Core.List.{List, _++_}
 use Prim.Native.Nat.{ℕ, _+_, _*_, _≤_}
 use native.Mathlib.Omega.{arith}
-use borrow.Author.Tests.{leb-true, eqb-true}
 use denote.Ref.{RefT, now}
 use lib.ListN.{length, take, drop}
-use lib.Seq.{take-add, take-all, drop-drop, drop-at}
-use Rattle.table.specs.Refusals.{granted, numberIn, ifGranted}
+use lib.Seq.{take-add, take-all, drop-at}
+use Rattle.table.specs.Refusals.{granted}
 use Rattle.table.specs.declared.Done.{Done}
 use Rattle.table.specs.Fill.{tabulated}
 use Rattle.table.proofs.Fill.{length-tabulated}
-use Rattle.table.proofs.Refusals.{same-verdict, rung-granted}
-use Rattle.icc.specs.Bytes.{EightBits, bytes32}
+use Rattle.icc.specs.Bytes.{EightBits}
 use Rattle.icc.proofs.Numbers.{bytes-be32}
 use Rattle.icc.specs.Opening.{opening}
 use Rattle.icc.proofs.Opening.{opens}
 use Rattle.curv.specs.declared.Counted.{Counted}
 use Rattle.curv.specs.Tag.{countOf, entryAt, entriesOf, partOf, head, bytesOf, tagOf, tagLength}
-use Rattle.curv.specs.Promises.{tagVerdict, CountPromise, readVerdict, ReadPromise, PartPromise, writeVerdict, WritePromise}
+use Rattle.curv.specs.Promises.{tagVerdict, CountPromise, ReadPromise, PartPromise, WritePromise}
 use Rattle.curv.proofs.Checks.{Readable, readable, grants, total-exact, total-room}
 use Rattle.curv.proofs.Entries.{entries-back, bytes-entries, length-bytes}
-use Rattle.curv.proofs.Written.{length-head, length-tag, tag-count, tag-readable}
+use Rattle.curv.proofs.Written.{length-head, tag-count, tag-readable}
 use Rattle.curv.proofs.Promises.{granted-read, granted-part, granted-write, one-count, one-read, one-write, count-granted, read-granted, write-granted}
 
 -- the bytes of the part are those of the entries

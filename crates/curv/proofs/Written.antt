@@ -1,12 +1,12 @@
 -- The bytes that are written for a table: the stores that make them, and what the tests say of them. Assumes nothing.
-use mathlib.Core.Path.{_≡_, _∙_, refl, sym, ap}
+use mathlib.Core.Path.{_≡_, _∙_, refl, ap}
 use mathlib.Core.Bool.{true}
 use mathlib.Core.List.{List, [], _∷_, _++_, append-assoc}
-use Prim.Native.Nat.{ℕ, suc, _+_, _*_, _≤_, _<_}
+use Prim.Native.Nat.{ℕ, _+_, _*_, _≤_, _<_}
 use native.Mathlib.Numerals.{add-one}
 use native.Mathlib.Omega.{arith}
-use lib.ListN.{length, getD, take, drop, length-append}
-use lib.Seq.{sets, length-sets, take-suc, take-all}
+use lib.ListN.{length, getD, take, length-append}
+use lib.Seq.{sets, length-sets, take-suc}
 use Rattle.icc.specs.Bytes.{bytes16, bytes32}
 use Rattle.icc.specs.Opening.{reservedZero, opening}
 use Rattle.icc.proofs.Numbers.{length-bytes16, length-bytes32, be32-bytes}

@@ -26,9 +26,13 @@ entriesOf b = tabulated (entryAt b) (countOf b)
 abbrev pub partOf : List ℕ → List ℕ
 partOf b = take (2 * countOf b) (drop 12 b)
 
--- which totals a tag of n entries may have: exactly 12 + 2n bytes
+-- 12 + 2n, where the last of n entries ends
+abbrev pub tagLength : ℕ → ℕ
+tagLength n = 12 + 2 * n
+
+-- which totals a tag of n entries may have: exactly that
 unfoldable pub total : ℕ → ℕ → Bool
-total n len = eqb len (12 + 2 * n)
+total n len = eqb len (tagLength n)
 
 -- What is written for a table: the first twelve bytes, and each entry's two.
 unfoldable pub head : ℕ → List ℕ
@@ -40,7 +44,3 @@ bytesOf (x ∷ t) = bytes16 x ++ bytesOf t
 
 abbrev pub tagOf : List ℕ → List ℕ
 tagOf t = head (length t) ++ bytesOf t
-
--- and how many bytes that is
-abbrev pub tagLength : ℕ → ℕ
-tagLength n = 12 + 2 * n

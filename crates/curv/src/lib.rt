@@ -11,9 +11,9 @@ use table::Refusal;
 use table::number;
 ghost use mathlib.Core.Path.{_≡_};
 ghost use mathlib.Core.List.{_++_};
-ghost use Prim.Native.Nat.{_+_, _*_, _≤_};
+ghost use Prim.Native.Nat.{_≤_};
 ghost use lib.ListN.{length, take};
-ghost use Rattle.curv.specs.Tag.{entryAt, total, bytesOf, head};
+ghost use Rattle.curv.specs.Tag.{entryAt, total, bytesOf, head, tagLength};
 ghost use Rattle.curv.specs.Promises.{CountPromise, ReadPromise, PartPromise, WritePromise};
 ghost use Rattle.table.specs.Fill.{tabulated};
 
@@ -23,12 +23,20 @@ pub enum Counted {
     Refused(Refusal),
 }
 
+// How many bytes n entries and the twelve before them are.
+fn tag_length(n: usize) -> usize
+    requires { ⌜ n ≤ 65536 ⌝ }
+    ensures { λ r. ⌜ r ≡ tagLength n ⌝ }
+{
+    12 + 2 * n
+}
+
 // Whether a tag of n entries may be `len` bytes long.
 fn whole(n: usize, len: usize) -> bool
     requires { ⌜ n ≤ 65536 ⌝ }
     ensures { λ r. ⌜ r ≡ total n len ⌝ }
 {
-    len == 12 + 2 * n
+    len == tag_length(n)
 }
 
 // How many entries a tag has, and so how long a buffer `read_curv` asks for.
@@ -56,7 +64,7 @@ pub fn count_entries(tag: &[u8]) -> Counted
 
 // Fills `out` with as many entries as it holds.
 fn fill(tag: &[u8], out: &mut [u16])
-    requires { ⌜ 12 + 2 * length (now out) ≤ length (now tag) ⌝ }
+    requires { ⌜ tagLength (length (now out)) ≤ length (now tag) ⌝ }
     ensures { λ _. ⌜ now (out .exit) ≡ tabulated (entryAt (now (tag .entry))) (length (now (out .entry))) ⌝ }
 {
     let mut i = 0;
@@ -93,7 +101,8 @@ pub fn entry_bytes<'a, 'b>(tag: &'a [u8], why: &'b mut u32) -> &'a [u8]
         }
         Counted::Entries(n) => {
             *why = 0;
-            return &tag[12..12 + 2 * n];
+            let end = tag_length(n);
+            return &tag[12..end];
         }
     }
 }
@@ -109,7 +118,7 @@ fn put_head(out: &mut [u8], n: u32)
 
 // The entries' bytes, after the first twelve.
 fn put_entries(table: &[u16], out: &mut [u8])
-    requires { ⌜ length (now out) ≡ 12 + 2 * length (now table) ⌝ }
+    requires { ⌜ length (now out) ≡ tagLength (length (now table)) ⌝ }
     ensures { λ _. ⌜ now (out .exit) ≡ take 12 (now (out .entry)) ++ bytesOf (now (table .entry)) ⌝ }
 {
     let mut i = 0;
@@ -126,7 +135,7 @@ pub fn write_curv(table: &[u16], out: &mut [u8]) -> Done
     if 65536 < table.len() {
         return Done::Refused(Refusal::TableLength);
     }
-    if out.len() != 12 + 2 * table.len() {
+    if out.len() != tag_length(table.len()) {
         return Done::Refused(Refusal::OutputLength);
     }
     put_head(out, table.len() as u32);

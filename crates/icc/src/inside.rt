@@ -1,6 +1,6 @@
 // Bytes of a tag read and written, for callers that have tested the tag's length: no door of the library.
 ghost use mathlib.Core.Path.{_≡_};
-ghost use Prim.Native.Nat.{_+_, _≤_, _<_};
+ghost use Prim.Native.Nat.{_+_, _≤_};
 ghost use lib.ListN.{length};
 ghost use lib.Seq.{sets};
 ghost use Rattle.icc.specs.Bytes.{be16, be32, bytes16, bytes32};

@@ -20,7 +20,7 @@ reserved-requires : tie.Need-reserved-requires
 reserved-requires c κs = search needs
 
 returns-3 : tie.Need-returns-3
-returns-3 c = 
+returns-3 c =
     let second = c .before .before in
     count-refused _ _
     (unreserved _ (omega arith) (holds (second .before .signed .ensures) (second .if2 .left))
@@ -33,7 +33,7 @@ cast-n : tie.Need-cast-n
 cast-n c = search needs
 
 returns-4 : tie.Need-returns-4
-returns-4 c = 
+returns-4 c =
     let third = c .before .before in
     let second = third .before .before in
     count-refused _ _

@@ -1,66 +1,72 @@
+-- `entry_bytes` meets its contract: refused as the count is, with an empty part; otherwise the part lies within the tag by its total. Assumes nothing.
+use mathlib.Core.Path.{_≡_, refl, ap}
+use Prim.Native.Nat.{ℕ, _-_, _*_}
+use native.Mathlib.Nat.{zero-add}
+use native.Mathlib.Omega.{arith}
+use lib.ListN.{take, drop}
+use Rattle.curv.specs.Tag.{countOf}
+use Rattle.curv.proofs.Promises.{refused-count, granted-count, part-refused, part-granted}
 use borrow.Author.Needs.{needs}
 use Rattle.curv.proofs.entry_bytes.Statement.{statement}
 use Rattle.curv.proofs.entry_bytes.Tie as tie
-use Rattle.curv.proofs.entry_bytes.Reads as reads
-use Rattle.curv.proofs.entry_bytes.Lts as lts
-use Rattle.curv.proofs.count_entries.Reads as count-entries-reads
-use Rattle.table.proofs.number.Reads as number-reads
 
--- src/lib.rt:89:11
 count-entries-requires : tie.Need-count-entries-requires
 count-entries-requires c κs = search needs
 
--- src/lib.rt:90:26
 enum-known-refusal : tie.Need-enum-known-refusal
 enum-known-refusal c = search needs
 
--- src/lib.rt:91:20
 number-requires : tie.Need-number-requires
 number-requires c κs = search needs
 
--- src/lib.rt:92:20
 sub-result : tie.Need-sub-result
 sub-result c = search needs
 
--- src/lib.rt:92:20
 part-result-start : tie.Need-part-result-start
 part-result-start c = search needs
 
--- src/lib.rt:92:20
 part-result-end : tie.Need-part-result-end
 part-result-end c = search needs
 
--- src/lib.rt:92:13
 returns : tie.Need-returns
-returns c = ?
+returns c =
+    let told = c .before .before .before in
+    let called = told .before .before in
+    let tag = called .before .before .args .tag in
+    let e = refused-count (tag .now) (called .count-entries .result) (called .count-entries .ensures) (told .refusal .given .0 .0) (cc) in
+    part-refused tag _ _ _ e (c .before .number .ensures) refl (ap (λ (o : ℕ). (tag .ptr .0, o)) (zero-add (tag .ptr .1)))
 
--- src/lib.rt:94:26
 enum-known-n : tie.Need-enum-known-n
 enum-known-n c = search needs
 
--- src/lib.rt:96:34
-mul-result : tie.Need-mul-result
-mul-result c = ?
+tag-length-requires : tie.Need-tag-length-requires
+tag-length-requires c κs =
+    let called = c .before .before .before in
+    let tag = called .before .before .args .tag in
+    granted-count (tag .now) (called .count-entries .result) (called .count-entries .ensures) (c .before .n .given .0 .0) (cc) .few
 
--- src/lib.rt:96:29
-add-result : tie.Need-add-result
-add-result c = ?
-
--- src/lib.rt:96:20
 sub-result-2 : tie.Need-sub-result-2
 sub-result-2 c = search needs
 
--- src/lib.rt:96:20
 part-result-start-2 : tie.Need-part-result-start-2
 part-result-start-2 c = search needs
 
--- src/lib.rt:96:20
 part-result-end-2 : tie.Need-part-result-end-2
-part-result-end-2 c = ?
+part-result-end-2 c =
+    let told = c .before .before in
+    let called = told .before .before in
+    let tag = called .before .before .args .tag in
+    let g = granted-count (tag .now) (called .count-entries .result) (called .count-entries .ensures) (told .n .given .0 .0) (cc) in
+    omega arith
 
--- src/lib.rt:96:13
 returns-2 : tie.Need-returns-2
-returns-2 c = ?
+returns-2 c =
+    let told = c .before .before .before in
+    let called = told .before .before in
+    let tag = called .before .before .args .tag in
+    let g = granted-count (tag .now) (called .count-entries .result) (called .count-entries .ensures) (told .n .given .0 .0) (cc) in
+    let part : c .before .tag-length .result - 12 ≡ 2 * countOf (tag .now) = omega arith in
+    part-granted tag _ _ (g .verdict) refl (ap (λ (k : ℕ). take k (drop 12 (tag .now))) part) refl
 
 pub entry-bytes-spec : {M : Type 1} → statement M
 entry-bytes-spec =
@@ -74,8 +80,7 @@ entry-bytes-spec =
     part-result-end
     returns
     enum-known-n
-    mul-result
-    add-result
+    tag-length-requires
     sub-result-2
     part-result-start-2
     part-result-end-2

@@ -5,7 +5,7 @@ use Prim.Native.Nat.{ℕ, _+_, _*_, _≤_, _-_}
 use native.Mathlib.Omega.{arith}
 use borrow.Author.Needs.{needs}
 use lib.ListN.{length, take}
-use lib.Seq.{length-sets, take-all}
+use lib.Seq.{take-all}
 use Rattle.curv.specs.Tag.{bytesOf, tagLength}
 use Rattle.curv.proofs.Written.{entry-stored}
 use Rattle.curv.proofs.put_entries.Statement.{statement}

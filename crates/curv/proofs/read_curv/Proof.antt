@@ -1,42 +1,52 @@
+-- `read_curv` meets its contract: refused as the count is, then for the buffer's length, and filled otherwise. Assumes nothing.
+use mathlib.Core.Path.{_∙_}
+use native.Mathlib.Omega.{arith}
+use Rattle.curv.proofs.Promises.{refused-count, granted-count, read-refused, read-misfit, read-granted}
 use borrow.Author.Needs.{needs}
 use Rattle.curv.proofs.read_curv.Statement.{statement}
 use Rattle.curv.proofs.read_curv.Tie as tie
-use Rattle.curv.proofs.read_curv.Reads as reads
-use Rattle.curv.proofs.read_curv.Lts as lts
-use Rattle.curv.proofs.count_entries.Reads as count-entries-reads
-use Rattle.curv.proofs.fill.Reads as fill-reads
 
--- src/lib.rt:73:11
 count-entries-requires : tie.Need-count-entries-requires
 count-entries-requires c κs = search needs
 
--- src/lib.rt:74:26
 enum-known-why : tie.Need-enum-known-why
 enum-known-why c = search needs
 
--- src/lib.rt:75:26
 enum-known-n : tie.Need-enum-known-n
 enum-known-n c = search needs
 
--- src/lib.rt:77:17
 returns : tie.Need-returns
-returns c = ?
+returns c =
+    let called = c .before .before .before .before in
+    let start = called .before .before .before in
+    let n = c .before .before .n .given .0 .0 in
+    let g = granted-count (start .args .tag .now) (called .count-entries .result) (called .count-entries .ensures) n (cc) in
+    read-misfit _ _ (g .verdict) (λ e. c .if1 .taken (e ∙ g .count))
 
--- src/lib.rt:79:13
 fill-requires : tie.Need-fill-requires
-fill-requires c κs = ?
+fill-requires c κs =
+    let called = c .before .before .before .before .before in
+    let start = called .before .before .before in
+    let n = c .before .before .before .n .given .0 .0 in
+    let g = granted-count (start .args .tag .now) (called .count-entries .result) (called .count-entries .ensures) n (cc) in
+    omega arith
 
--- src/lib.rt:70:1
 returns-2 : tie.Need-returns-2
-returns-2 c = ?
+returns-2 c =
+    let called = c .before .before .before in
+    let start = called .before .before .before in
+    read-refused _ _ _ (refused-count (start .args .tag .now) (called .count-entries .result) (called .count-entries .ensures) _ (cc))
 
--- src/lib.rt:70:1
 same-length : tie.Need-same-length
 same-length c = search needs
 
--- src/lib.rt:70:1
 returns-3 : tie.Need-returns-3
-returns-3 c = ?
+returns-3 c =
+    let called = c .before .before .before .before .before .before .before .before in
+    let start = called .before .before .before in
+    let n = c .before .before .before .before .before .before .n .given .0 .0 in
+    let g = granted-count (start .args .tag .now) (called .count-entries .result) (called .count-entries .ensures) n (cc) in
+    read-granted _ _ _ (g .verdict) (omega arith) (c .before .before .fill .ensures)
 
 pub read-curv-spec : {M : Type 1} → statement M
 read-curv-spec =

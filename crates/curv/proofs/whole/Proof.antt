@@ -5,15 +5,12 @@ use borrow.Author.Needs.{needs}
 use Rattle.curv.proofs.whole.Statement.{statement}
 use Rattle.curv.proofs.whole.Tie as tie
 
-mul-result : tie.Need-mul-result
-mul-result c = search needs
-
-add-result : tie.Need-add-result
-add-result c = search needs
+tag-length-requires : tie.Need-tag-length-requires
+tag-length-requires c κs = search needs
 
 returns : tie.Need-returns
 unfolding total
-returns c = refl
+returns c = rw (c .tag-length .ensures) refl
 
 pub whole-spec : {M : Type 1} → statement M
-whole-spec = tie.close (tie.spec mul-result add-result returns)
+whole-spec = tie.close (tie.spec tag-length-requires returns)
