@@ -1,7 +1,7 @@
 -- A number's bytes make the number, and a number made of bytes has those bytes. Assumes nothing.
 use mathlib.Core.Path.{_≡_, _∙_, refl, sym, ap}
 use mathlib.Core.List.{List, _++_}
-use Prim.Native.Nat.{ℕ, suc, _+_, _/_, _%_, _≤_, _<_}
+use Prim.Native.Nat.{ℕ, suc, _+_, _*_, _/_, _%_, _≤_, _<_}
 use native.Mathlib.Nat.{add-zero, add-assoc}
 use native.Mathlib.Numerals.{add-one}
 use native.Mathlib.Omega.{arith}
@@ -34,7 +34,11 @@ module _ (p : List ℕ) (i x : ℕ) (q : List ℕ) (e : length p ≡ i) where
   be32-bytes = let l = bytes32 x ++ q in omega (arith, first l, later l 1, later l 2, later l 3)
 
 -- four bytes are twice two
-bytes32-halves : (x : ℕ) → bytes32 x ≡ bytes16 (x / 65536) ++ bytes16 (x % 65536)
+pub be32-halves : (b : List ℕ) (i : ℕ) → be32 b i ≡ be16 b i * 65536 + be16 b (i + 2)
+unfolding be16 be32
+be32-halves b i = omega (arith, ap (λ (k : ℕ). getD b k 0) (add-assoc i 2 1))
+
+pub bytes32-halves : (x : ℕ) → bytes32 x ≡ bytes16 (x / 65536) ++ bytes16 (x % 65536)
 unfolding bytes16 bytes32
 bytes32-halves x =
     let a : x / 16777216 ≡ x / 65536 / 256 = omega arith in
@@ -55,15 +59,9 @@ module _ (b : List ℕ) (w : EightBits b) where
       let low : be16 b i % 256 ≡ getD b (i + 1) 0 = omega (arith, w i, w (i + 1)) in
       rw (high, low, drop-cons b i 0 (omega arith), add-one i, drop-cons b (suc i) 0 (omega arith)) refl
 
-  high-half : (i : ℕ) → be32 b i / 65536 ≡ be16 b i
-  unfolding be16 be32
-  high-half i = omega (arith, w (i + 1), w (i + 2), w (i + 3))
-
-  low-half : (i : ℕ) → be32 b i % 65536 ≡ be16 b (i + 2)
-  unfolding be16 be32
-  low-half i = omega (arith, w (i + 2), w (i + 3), ap (λ (k : ℕ). getD b k 0) (add-assoc i 2 1))
-
   pub bytes-be32 : (i : ℕ) → i + 4 ≤ length b → bytes32 (be32 b i) ≡ take 4 (drop i b)
   bytes-be32 i h =
-      rw (bytes32-halves (be32 b i), high-half i, low-half i, bytes-be16 i (omega arith), bytes-be16 (i + 2) (omega arith))
+      let high : be32 b i / 65536 ≡ be16 b i = omega (arith, be32-halves b i, below16 (i + 2)) in
+      let low : be32 b i % 65536 ≡ be16 b (i + 2) = omega (arith, be32-halves b i, below16 (i + 2)) in
+      rw (bytes32-halves (be32 b i), high, low, bytes-be16 i (omega arith), bytes-be16 (i + 2) (omega arith))
       (ap (λ (l : List ℕ). take 2 (drop i b) ++ take 2 l) (sym (drop-drop 2 i b)) ∙ sym (take-add 2 2 (drop i b)))

@@ -3,6 +3,7 @@ use mathlib.Core.Path.{_≡_, _∙_, refl, sym, ap}
 use mathlib.Core.Bool.{Bool, true, false}
 use mathlib.Core.List.{List, [], _∷_, _++_, append-assoc}
 use Prim.Native.Nat.{ℕ, _+_, _≤_}
+use native.Mathlib.Nat.{add-assoc}
 use native.Mathlib.Numerals.{add-one}
 use native.Mathlib.Omega.{arith}
 use borrow.Author.Tests.{eqb-true, eq-eqb, ne-eqb}
@@ -13,23 +14,32 @@ use Rattle.table.specs.Choice.{both}
 use Rattle.table.proofs.Choice.{both-left, both-right}
 use Rattle.icc.specs.Opening.{stands, signedBy, reservedZero, opening}
 
--- The test, byte by byte: the first one that differs settles it, an equal one leaves it to the rest, and a last one decides alone.
-module _ (b : List ℕ) (i x : ℕ) where
-  pub differs : (l : List ℕ) → (getD b i 0 ≡ x → ⊥) → false ≡ stands b i (x ∷ l)
-  unfolding stands
-  differs l n = simp (ne-eqb _ _ n)
+both-true : (t : Bool) → both t true ≡ t
+both-true true = refl
+both-true false = refl
 
-  pub agrees : (l : List ℕ) → getD b i 0 ≡ x → stands b (i + 1) l ≡ stands b i (x ∷ l)
-  unfolding stands
-  agrees l e = simp (eq-eqb _ _ e)
+-- The test of four bytes, one by one: the first that differs settles it, and past the third the fourth decides.
+module _ (b : List ℕ) (i p q r s : ℕ) where
+  abbrev test : Bool
+  test = stands b i (p ∷ q ∷ r ∷ s ∷ [])
 
-  pub alone : eqb (getD b i 0) x ≡ stands b i (x ∷ [])
+  spelt : test ≡ both (eqb (getD b i 0) p) (both (eqb (getD b (i + 1) 0) q) (both (eqb (getD b (i + 2) 0) r) (eqb (getD b (i + 3) 0) s)))
   unfolding stands
-  alone = sym (both-true (eqb (getD b i 0) x))
-    where
-      both-true : (t : Bool) → both t true ≡ t
-      both-true true = refl
-      both-true false = refl
+  spelt = simp (add-assoc, both-true)
+
+  pub first-differs : (getD b i 0 ≡ p → ⊥) → false ≡ test
+  first-differs n = sym (spelt ∙ simp (ne-eqb _ _ n))
+
+  module _ (e : getD b i 0 ≡ p) where
+    pub second-differs : (getD b (i + 1) 0 ≡ q → ⊥) → false ≡ test
+    second-differs n = sym (spelt ∙ simp (eq-eqb _ _ e, ne-eqb _ _ n))
+
+    module _ (f : getD b (i + 1) 0 ≡ q) where
+      pub third-differs : (getD b (i + 2) 0 ≡ r → ⊥) → false ≡ test
+      third-differs n = sym (spelt ∙ simp (eq-eqb _ _ e, eq-eqb _ _ f, ne-eqb _ _ n))
+
+      pub fourth-decides : getD b (i + 2) 0 ≡ r → eqb (getD b (i + 3) 0) s ≡ test
+      fourth-decides g = sym (spelt ∙ simp (eq-eqb _ _ e, eq-eqb _ _ f, eq-eqb _ _ g))
 
 -- where the test holds, the bytes that stand there are those listed
 pub stands-bytes : (b : List ℕ) (i : ℕ) (l : List ℕ) → i + length l ≤ length b → stands b i l ≡ true → take (length l) (drop i b) ≡ l

@@ -1,10 +1,11 @@
 // Bytes of a tag read and written, for callers that have tested the tag's length: no door of the library.
 ghost use mathlib.Core.Path.{_≡_};
+ghost use mathlib.Core.List.{[], _∷_};
 ghost use Prim.Native.Nat.{_+_, _≤_};
 ghost use lib.ListN.{length};
 ghost use lib.Seq.{sets};
 ghost use Rattle.icc.specs.Bytes.{be16, be32, bytes16, bytes32};
-ghost use Rattle.icc.specs.Opening.{signedBy, reservedZero, opening};
+ghost use Rattle.icc.specs.Opening.{stands, signedBy, reservedZero, opening};
 
 // A byte at the width of 16 bits, so that a product of it does not wrap.
 fn wide16(x: u8) -> u16
@@ -13,9 +14,9 @@ fn wide16(x: u8) -> u16
     x as u16
 }
 
-// A byte at the width of 32 bits.
-fn wide32(x: u8) -> u32
-    ensures { λ r. ⌜ (r ≡ x) × (r ≤ 255) ⌝ }
+// A 16-bit number at the width of 32 bits.
+fn wide32(x: u16) -> u32
+    ensures { λ r. ⌜ (r ≡ x) × (r ≤ 65535) ⌝ }
 {
     x as u32
 }
@@ -25,9 +26,9 @@ pub fn u16_at(tag: &[u8], i: usize) -> u16
     requires { ⌜ i + 2 ≤ length (now tag) ⌝ }
     ensures { λ r. ⌜ r ≡ be16 (now (tag .entry)) i ⌝ }
 {
-    let first = wide16(tag[i]);
-    let second = wide16(tag[i + 1]);
-    first * 256 + second
+    let high = wide16(tag[i]);
+    let low = wide16(tag[i + 1]);
+    high * 256 + low
 }
 
 // The 32-bit number at byte i.
@@ -35,11 +36,26 @@ pub fn u32_at(tag: &[u8], i: usize) -> u32
     requires { ⌜ i + 4 ≤ length (now tag) ⌝ }
     ensures { λ r. ⌜ r ≡ be32 (now (tag .entry)) i ⌝ }
 {
-    let first = wide32(tag[i]);
-    let second = wide32(tag[i + 1]);
-    let third = wide32(tag[i + 2]);
-    let fourth = wide32(tag[i + 3]);
-    first * 16777216 + second * 65536 + third * 256 + fourth
+    let high = wide32(u16_at(tag, i));
+    let low = wide32(u16_at(tag, i + 2));
+    high * 65536 + low
+}
+
+// Whether the four bytes from byte i on are a, b, c, d.
+fn four_at(tag: &[u8], i: usize, a: u8, b: u8, c: u8, d: u8) -> bool
+    requires { ⌜ i + 4 ≤ length (now tag) ⌝ }
+    ensures { λ r. ⌜ r ≡ stands (now (tag .entry)) i (a ∷ b ∷ c ∷ d ∷ []) ⌝ }
+{
+    if tag[i] != a {
+        return false;
+    }
+    if tag[i + 1] != b {
+        return false;
+    }
+    if tag[i + 2] != c {
+        return false;
+    }
+    tag[i + 3] == d
 }
 
 // Whether the first four bytes are the signature a, b, c, d.
@@ -47,16 +63,7 @@ pub fn signed(tag: &[u8], a: u8, b: u8, c: u8, d: u8) -> bool
     requires { ⌜ 4 ≤ length (now tag) ⌝ }
     ensures { λ r. ⌜ r ≡ signedBy a b c d (now (tag .entry)) ⌝ }
 {
-    if tag[0] != a {
-        return false;
-    }
-    if tag[1] != b {
-        return false;
-    }
-    if tag[2] != c {
-        return false;
-    }
-    tag[3] == d
+    four_at(tag, 0, a, b, c, d)
 }
 
 // Whether the four reserved bytes after the signature are zero.
@@ -64,16 +71,7 @@ pub fn reserved(tag: &[u8]) -> bool
     requires { ⌜ 8 ≤ length (now tag) ⌝ }
     ensures { λ r. ⌜ r ≡ reservedZero (now (tag .entry)) ⌝ }
 {
-    if tag[4] != 0 {
-        return false;
-    }
-    if tag[5] != 0 {
-        return false;
-    }
-    if tag[6] != 0 {
-        return false;
-    }
-    tag[7] == 0
+    four_at(tag, 4, 0, 0, 0, 0)
 }
 
 // Writes the signature a, b, c, d and the reserved bytes.
@@ -105,8 +103,6 @@ pub fn put_u32(out: &mut [u8], i: usize, x: u32)
     requires { ⌜ i + 4 ≤ length (now out) ⌝ }
     ensures { λ _. ⌜ now (out .exit) ≡ sets (now (out .entry)) i (bytes32 x) ⌝ }
 {
-    out[i] = (x / 16777216) as u8;
-    out[i + 1] = (x / 65536 % 256) as u8;
-    out[i + 2] = (x / 256 % 256) as u8;
-    out[i + 3] = (x % 256) as u8;
+    put_u16(out, i, (x / 65536) as u16);
+    put_u16(out, i + 2, (x % 65536) as u16);
 }

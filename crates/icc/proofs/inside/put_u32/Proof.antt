@@ -1,72 +1,41 @@
--- `put_u32` meets its contract: four stores in a row are the definition's. Assumes nothing.
-use mathlib.Core.Path.{_≡_, refl}
-use Prim.Native.Nat.{suc, _+_}
-use native.Mathlib.Omega.{arith}
-use lib.ListN.{length-set}
-use Rattle.icc.specs.Bytes.{bytes32}
+-- `put_u32` meets its contract: two halves stored are the number. Assumes nothing.
+use Rattle.icc.proofs.Stores.{halves-stored}
 use borrow.Author.Needs.{needs}
 use Rattle.icc.proofs.inside.put_u32.Statement.{statement}
 use Rattle.icc.proofs.inside.put_u32.Tie as tie
 
-cast-out : tie.Need-cast-out
-cast-out c = search needs
+cast-put-u16 : tie.Need-cast-put-u16
+cast-put-u16 c = search needs
 
-slice-write-out : tie.Need-slice-write-out
-slice-write-out c = search needs
+put-u16-requires : tie.Need-put-u16-requires
+put-u16-requires c κs = search needs
 
-cast-out-2 : tie.Need-cast-out-2
-cast-out-2 c = search needs
+add-put-u16 : tie.Need-add-put-u16
+add-put-u16 c = search needs
 
-add-out : tie.Need-add-out
-add-out c = search needs
+cast-put-u16-2 : tie.Need-cast-put-u16-2
+cast-put-u16-2 c = search needs
 
-slice-write-out-2 : tie.Need-slice-write-out-2
-slice-write-out-2 c = simp length-set (omega arith)
-
-cast-out-3 : tie.Need-cast-out-3
-cast-out-3 c = search needs
-
-add-out-2 : tie.Need-add-out-2
-add-out-2 c = search needs
-
-slice-write-out-3 : tie.Need-slice-write-out-3
-slice-write-out-3 c = simp length-set (omega arith)
-
-cast-out-4 : tie.Need-cast-out-4
-cast-out-4 c = search needs
-
-add-out-3 : tie.Need-add-out-3
-add-out-3 c = search needs
-
-slice-write-out-4 : tie.Need-slice-write-out-4
-slice-write-out-4 c = simp length-set (omega arith)
+put-u16-requires-2 : tie.Need-put-u16-requires-2
+put-u16-requires-2 c κs = search needs
 
 same-length : tie.Need-same-length
 same-length c = search needs
 
 returns : tie.Need-returns
-unfolding bytes32
 returns c =
-    let i = c .args .i in
-    let one : i + 1 ≡ suc i = omega arith in
-    let two : i + 2 ≡ suc (suc i) = omega arith in
-    let three : i + 3 ≡ suc (suc (suc i)) = omega arith in
-    rw (one, two, three) refl
+    let second = c .before .before in
+    let first = second .before .before .before .before in
+    rw (second .put-u162 .ensures, first .put-u16 .ensures) (halves-stored _ _ _)
 
 pub put-u32-spec : {M : Type 1} → statement M
 put-u32-spec =
     tie.close
     (tie.spec
-    cast-out
-    slice-write-out
-    cast-out-2
-    add-out
-    slice-write-out-2
-    cast-out-3
-    add-out-2
-    slice-write-out-3
-    cast-out-4
-    add-out-3
-    slice-write-out-4
+    cast-put-u16
+    put-u16-requires
+    add-put-u16
+    cast-put-u16-2
+    put-u16-requires-2
     same-length
     returns)

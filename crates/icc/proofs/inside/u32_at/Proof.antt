@@ -1,83 +1,43 @@
--- `u32_at` meets its contract: the sum is the definition's. Assumes nothing.
-use Rattle.icc.specs.Bytes.{be32}
+-- `u32_at` meets its contract: two halves make the number. Assumes nothing.
+use native.Mathlib.Omega.{arith}
+use Rattle.icc.proofs.Numbers.{be32-halves}
 use borrow.Author.Needs.{needs}
 use Rattle.icc.proofs.inside.u32_at.Statement.{statement}
 use Rattle.icc.proofs.inside.u32_at.Tie as tie
 
-shared-slice-read-wide32 : tie.Need-shared-slice-read-wide32
-shared-slice-read-wide32 c = search needs
+u16-at-requires : tie.Need-u16-at-requires
+u16-at-requires c κs = search needs
 
 wide32-requires : tie.Need-wide32-requires
 wide32-requires c κs = search needs
 
-add-wide32 : tie.Need-add-wide32
-add-wide32 c = search needs
+add-u16-at : tie.Need-add-u16-at
+add-u16-at c = search needs
 
-shared-slice-read-wide32-2 : tie.Need-shared-slice-read-wide32-2
-shared-slice-read-wide32-2 c = search needs
+u16-at-requires-2 : tie.Need-u16-at-requires-2
+u16-at-requires-2 c κs = search needs
 
 wide32-requires-2 : tie.Need-wide32-requires-2
 wide32-requires-2 c κs = search needs
 
-add-wide32-2 : tie.Need-add-wide32-2
-add-wide32-2 c = search needs
-
-shared-slice-read-wide32-3 : tie.Need-shared-slice-read-wide32-3
-shared-slice-read-wide32-3 c = search needs
-
-wide32-requires-3 : tie.Need-wide32-requires-3
-wide32-requires-3 c κs = search needs
-
-add-wide32-3 : tie.Need-add-wide32-3
-add-wide32-3 c = search needs
-
-shared-slice-read-wide32-4 : tie.Need-shared-slice-read-wide32-4
-shared-slice-read-wide32-4 c = search needs
-
-wide32-requires-4 : tie.Need-wide32-requires-4
-wide32-requires-4 c κs = search needs
-
 mul-result : tie.Need-mul-result
 mul-result c = search needs
-
-mul-result-2 : tie.Need-mul-result-2
-mul-result-2 c = search needs
 
 add-result : tie.Need-add-result
 add-result c = search needs
 
-mul-result-3 : tie.Need-mul-result-3
-mul-result-3 c = search needs
-
-add-result-2 : tie.Need-add-result-2
-add-result-2 c = search needs
-
-add-result-3 : tie.Need-add-result-3
-add-result-3 c = search needs
-
 returns : tie.Need-returns
-unfolding be32
-returns c = search needs
+returns c = omega (arith, be32-halves (c .before .before .before .before .before .args .tag .now) (c .before .before .before .before .before .args .i))
 
 pub u32-at-spec : {M : Type 1} → statement M
 u32-at-spec =
     tie.close
     (tie.spec
-    shared-slice-read-wide32
+    u16-at-requires
     wide32-requires
-    add-wide32
-    shared-slice-read-wide32-2
+    add-u16-at
+    u16-at-requires-2
     wide32-requires-2
-    add-wide32-2
-    shared-slice-read-wide32-3
-    wide32-requires-3
-    add-wide32-3
-    shared-slice-read-wide32-4
-    wide32-requires-4
     mul-result
-    mul-result-2
     add-result
-    mul-result-3
-    add-result-2
-    add-result-3
     returns)
