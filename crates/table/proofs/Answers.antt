@@ -3,8 +3,6 @@ use mathlib.Core.Path.{_≡_, refl, ap}
 use Prim.Native.Nat.{ℕ}
 use native.Mathlib.Omega.{arith}
 use Rattle.table.specs.Answers.{numberOfDone, numberOfLooked, valueOfLooked, numberOfSought, valueOfSought}
-use Rattle.table.specs.declared.Drive.{Drive}
-use Rattle.table.specs.declared.Density.{Density}
 use Rattle.table.specs.declared.Done.{Done}
 use Rattle.table.specs.declared.Looked.{Looked}
 use Rattle.table.specs.declared.Sought.{Sought}

@@ -1,10 +1,9 @@
 -- The test that a number is from low to high, and the two orders that it stands for, each from the other. Assumes nothing.
 use mathlib.Core.Path.{_≡_}
-use mathlib.Core.Bool.{Bool, true, false}
+use mathlib.Core.Bool.{true, false}
 use Prim.Native.Nat.{ℕ, _≤_, _<_}
 use borrow.Author.Tests.{leb-true, le-leb, lt-leb}
 use lib.Dec.{leb}
-use Rattle.table.specs.Choice.{both}
 use Rattle.table.specs.Sizes.{within}
 use Rattle.table.proofs.Choice.{both-left, both-right}
 

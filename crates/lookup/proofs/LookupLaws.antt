@@ -1,0 +1,103 @@
+-- The laws of the 16-bit lookup. On any source of entries: it lies between its two entries, is exact on an entry, and depends on those two alone.
+-- On a nondecreasing one: it never falls as the position rises. A baked table answers as the table does.
+-- Assumes nothing.
+use mathlib.Core.Path.{_≡_, _∙_, ap}
+use mathlib.Core.Bool.{true}
+use mathlib.Core.List.{List}
+use Prim.Native.Nat.{ℕ, _-_, _*_, _/_, _≤_, _<_, min, max}
+use native.Mathlib.Nat.{le-of-suc-le-suc, mul-comm, mul-div-cancel, mul-mod-left, div-le-of-le-mul, le-div-iff-mul-le, min-le-left, min-le-right, le-max-left, le-max-right}
+use native.Mathlib.Omega.{arith}
+use lib.ListN.{length, getD}
+use lib.Dec.{lit<}
+use Rattle.table.specs.Sizes.{sized}
+use Rattle.table.specs.Order.{Nondecreasing, SixteenBits}
+use Rattle.table.proofs.Sizes.{within-low}
+use Rattle.table.proofs.Fill.{length-tabulated, getD-tabulated}
+use Rattle.lookup.specs.Demand.{LookupObeys}
+use Rattle.lookup.specs.Lookup.{lower, upper, steps, lookup16, entriesOf, lookedUp, bakedOf}
+use Rattle.lookup.proofs.Steps.{steps-le}
+use Rattle.lookup.proofs.Sum.{Rises, div-mono, sum-same, sum-on-entry, sum-at-most, sum-at-least, sum-first, sum-last, lower-le-sum, sum-le-upper, sum-rises}
+
+cap>0 : 0 < 65535
+cap>0 = lit< tt
+
+-- two sources that agree in the two bracketing entries answer the same
+pub lookup-same : (T U : ℕ → ℕ) (n p : ℕ) → T (lower 65535 (steps n p)) ≡ U (lower 65535 (steps n p)) → T (upper 65535 (steps n p)) ≡ U (upper 65535 (steps n p)) → lookup16 T n p ≡ lookup16 U n p
+unfolding lookup16
+lookup-same T U n p l u = ap (λ (s : ℕ). s / 65535) (sum-same 65535 T U (steps n p) l u)
+
+module _ (T : ℕ → ℕ) (n : ℕ) where
+  -- between the smaller and the larger of the two entries, whatever their order
+  pub lookup-at-most : (p m : ℕ) → T (lower 65535 (steps n p)) ≤ m → T (upper 65535 (steps n p)) ≤ m → lookup16 T n p ≤ m
+  unfolding lookup16
+  lookup-at-most p m l u =
+      div-le-of-le-mul 65535 (omega (arith, sum-at-most 65535 T cap>0 m (steps n p) l u, mul-comm m 65535))
+
+  pub lookup-at-least : (p m : ℕ) → m ≤ T (lower 65535 (steps n p)) → m ≤ T (upper 65535 (steps n p)) → m ≤ lookup16 T n p
+  unfolding lookup16
+  lookup-at-least p m l u = le-div-iff-mul-le cap>0 .1 (sum-at-least 65535 T cap>0 m (steps n p) l u)
+
+  pub smaller-le-lookup : (p : ℕ) → min (T (lower 65535 (steps n p))) (T (upper 65535 (steps n p))) ≤ lookup16 T n p
+  smaller-le-lookup p = lookup-at-least p _ (min-le-left _ _) (min-le-right _ _)
+
+  pub lookup-le-larger : (p : ℕ) → lookup16 T n p ≤ max (T (lower 65535 (steps n p))) (T (upper 65535 (steps n p)))
+  lookup-le-larger p = lookup-at-most p _ (le-max-left _ _) (le-max-right _ _)
+
+  -- exact at both ends
+  pub lookup-first : lookup16 T n 0 ≡ T 0
+  unfolding lookup16
+  lookup-first = ap (λ (s : ℕ). s / 65535) (sum-first 65535 T cap>0 n) ∙ mul-div-cancel (T 0) cap>0
+
+  pub lookup-last : lookup16 T n 65535 ≡ T (n - 1)
+  unfolding lookup16
+  lookup-last = ap (λ (s : ℕ). s / 65535) (sum-last 65535 T cap>0 n) ∙ mul-div-cancel (T (n - 1)) cap>0
+
+-- of 65,536 entries the lookup at p is entry p
+pub lookup-full : (T : ℕ → ℕ) (p : ℕ) → lookup16 T 65536 p ≡ T p
+unfolding lookup16
+lookup-full T p =
+    ap (λ (s : ℕ). s / 65535)
+    (sum-on-entry 65535 T cap>0 (p * 65535) (mul-mod-left p 65535) ∙ ap (λ (i : ℕ). T i * 65535) (mul-div-cancel p cap>0))
+    ∙ mul-div-cancel (T p) cap>0
+
+pub looked-up-full : (t : List ℕ) → length t ≡ 65536 → (p : ℕ) → lookedUp t p ≡ getD t p 0
+looked-up-full t e p = ap (λ (n : ℕ). lookup16 (entriesOf t) n p) e ∙ lookup-full (entriesOf t) p
+
+module _ (T : ℕ → ℕ) (n : ℕ) (some : 0 < n) (R : Rises n T) where
+  -- between its bracketing entries, in their order
+  pub lower-le-lookup : (p : ℕ) → p ≤ 65535 → T (lower 65535 (steps n p)) ≤ lookup16 T n p
+  unfolding lookup16
+  lower-le-lookup p h = le-div-iff-mul-le cap>0 .1 (lower-le-sum 65535 n T cap>0 some R (steps n p) (steps-le n h))
+
+  pub lookup-le-upper : (p : ℕ) → p ≤ 65535 → lookup16 T n p ≤ T (upper 65535 (steps n p))
+  unfolding lookup16
+  lookup-le-upper p h =
+      div-le-of-le-mul 65535
+      (omega (arith, sum-le-upper 65535 n T cap>0 some R (steps n p) (steps-le n h), mul-comm (T (upper 65535 (steps n p))) 65535))
+
+  -- never falls as the position rises
+  pub lookup-never-falls : (p q : ℕ) → p ≤ q → q ≤ 65535 → lookup16 T n p ≤ lookup16 T n q
+  unfolding lookup16
+  lookup-never-falls p q pq h = div-mono cap>0 (sum-rises 65535 n T cap>0 some R p q pq h)
+
+-- in a table of 16-bit entries the answer is 16 bits wide
+pub looked-up-fits : (t : List ℕ) → SixteenBits t → (p : ℕ) → lookedUp t p ≤ 65535
+looked-up-fits t b p = lookup-at-most (entriesOf t) (length t) p 65535 (le-of-suc-le-suc (b _)) (le-of-suc-le-suc (b _))
+
+-- looking up in the baked table is looking up in the table
+pub baked-same : (t : List ℕ) (p : ℕ) → p ≤ 65535 → lookedUp (bakedOf t) p ≡ lookedUp t p
+baked-same t p h =
+    looked-up-full (bakedOf t) (length-tabulated (lookedUp t) 65536) p
+    ∙ getD-tabulated (lookedUp t) 65536 p 0 (omega arith)
+
+-- demand 3's part on the lookup
+pub lookup-obeys : (t : List ℕ) → sized (length t) ≡ true → Nondecreasing t → LookupObeys t
+lookup-obeys t h R =
+    let some = within-low 1 65536 (length t) h in
+    record {
+      never-falls = lookup-never-falls (entriesOf t) (length t) some R;
+      not-below = lower-le-lookup (entriesOf t) (length t) some R;
+      not-above = lookup-le-upper (entriesOf t) (length t) some R;
+      first = lookup-first (entriesOf t) (length t);
+      last = lookup-last (entriesOf t) (length t);
+    }

@@ -1,0 +1,5 @@
+-- `Lookup`: the definitions. `Promises`: what the calls promise of them. `Demand`: what is demanded of a nondecreasing table. `Inside`: what inner functions ask.
+pub mod Lookup
+pub mod Promises
+pub mod Demand
+pub mod Inside

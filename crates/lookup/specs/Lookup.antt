@@ -1,0 +1,64 @@
+-- The lookups of document 01. A position or an input is v steps into the entries (document 01's V), cap steps from each to the next: the 16-bit lookup
+-- has 65535 for cap, the gamma lookup N - 1. The entries are a function T of the index beside their number n, so that a table is one source of them
+-- and others can share this. Assumes nothing.
+use Prim.Native.Nat.{ℕ, _+_, _-_, _*_, _/_, _%_, _^_}
+use mathlib.Core.List.{List}
+use lib.ListN.{length, getD}
+use lib.Dec.{ltb}
+use Rattle.table.specs.Choice.{pick}
+use Rattle.table.specs.Fill.{tabulated}
+
+-- lower = floor(v/cap)
+abbrev pub lower : ℕ → ℕ → ℕ
+lower cap v = v / cap
+
+-- k = v mod cap
+abbrev pub rest : ℕ → ℕ → ℕ
+rest cap v = v % cap
+
+-- upper = lower + 1 if k > 0, else lower
+abbrev pub upper : ℕ → ℕ → ℕ
+upper cap v = pick (ltb 0 (rest cap v)) (lower cap v + 1) (lower cap v)
+
+-- S = T[upper]·k + T[lower]·(cap - k), the sum of the two weighted entries
+unfoldable pub weighted : ℕ → (ℕ → ℕ) → ℕ → ℕ
+weighted cap T v = T (upper cap v) * rest cap v + T (lower cap v) * (cap - rest cap v)
+
+-- v = p(n-1)
+abbrev pub steps : ℕ → ℕ → ℕ
+steps n p = p * (n - 1)
+
+-- the 16-bit lookup at position p: floor(S/65535)
+unfoldable pub lookup16 : (ℕ → ℕ) → ℕ → ℕ → ℕ
+lookup16 T n p = weighted 65535 T (steps n p) / 65535
+
+-- D = floor(cap·65535/(2^depth - 1)), cap = N - 1
+unfoldable pub gammaUnit : ℕ → ℕ → ℕ
+gammaUnit N depth = (N - 1) * 65535 / (2 ^ depth - 1)
+
+-- the gamma lookup at input x: floor((S + floor(D/2))/D), S over cap = N - 1 and not divided by it
+unfoldable pub gamma : ℕ → ℕ → (ℕ → ℕ) → ℕ → ℕ → ℕ
+gamma N depth T n x = (weighted (N - 1) T (steps n x) + gammaUnit N depth / 2) / gammaUnit N depth
+
+-- a table as a source of entries
+abbrev pub entriesOf : List ℕ → ℕ → ℕ
+entriesOf t i = getD t i 0
+
+-- the 16-bit lookup in a table
+abbrev pub lookedUp : List ℕ → ℕ → ℕ
+lookedUp t p = lookup16 (entriesOf t) (length t) p
+
+-- the gamma lookup in a table
+abbrev pub gammaUp : List ℕ → ℕ → ℕ → ℕ → ℕ
+gammaUp t N depth x = gamma N depth (entriesOf t) (length t) x
+
+-- the 16-bit lookup at each of a row of positions
+abbrev pub rowAt : List ℕ → List ℕ → ℕ → ℕ
+rowAt t positions i = lookedUp t (getD positions i 0)
+
+abbrev pub rowOf : List ℕ → List ℕ → List ℕ
+rowOf t positions = tabulated (rowAt t positions) (length positions)
+
+-- the 16-bit lookup at every position: the table's baked form
+abbrev pub bakedOf : List ℕ → List ℕ
+bakedOf t = tabulated (lookedUp t) 65536

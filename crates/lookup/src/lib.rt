@@ -1,0 +1,161 @@
+// Looking up a position in a table: one, a row of them, every one (baked), and the integer gamma lookup.
+use table::Density;
+use table::Done;
+use table::Drive;
+use table::Looked;
+use table::Refusal;
+use table::inside::wide;
+use table::sized;
+use table::spanned;
+use table::within;
+ghost use mathlib.Core.Path.{_≡_};
+ghost use mathlib.Core.Bool.{true};
+ghost use Prim.Native.Nat.{_-_, _*_, _≤_, _^_};
+ghost use lib.ListN.{length};
+ghost use Rattle.table.specs.Sizes.{sized};
+ghost use Rattle.lookup.specs.Inside.{GammaFits};
+ghost use Rattle.lookup.specs.Lookup.{gammaUnit, gammaUp, rowOf, bakedOf};
+ghost use Rattle.lookup.specs.Promises.{LookupPromise, GammaPromise, RowPromise, BakePromise};
+
+pub mod inside;
+
+// The answer of the gamma lookup.
+pub enum Coded {
+    Value(u16),
+    Refused(Refusal),
+}
+
+// The sample at a position. The table stands first in every call, where the Rust has it last.
+pub fn lut_interp_linear16(table: &[u16], p: Drive) -> Looked
+    ensures { λ r. ⌜ LookupPromise (now (table .entry)) p r ⌝ }
+{
+    if !sized(table.len()) {
+        return Looked::Refused(Refusal::TableLength);
+    }
+    Looked::At(Density(inside::lookup(table, p.0)))
+}
+
+// The largest number that `depth` bits hold.
+fn max_colors(depth: usize) -> usize
+    requires { ⌜ (1 ≤ depth) × (depth ≤ 16) ⌝ }
+    ensures { λ r. ⌜ (r ≡ 2 ^ depth - 1) × (1 ≤ r) × (r ≤ 65535) ⌝ }
+{
+    (1usize << depth) - 1
+}
+
+// How much of the weighted sum makes one step of the gamma lookup's answer.
+fn gamma_unit(inputs: usize, depth: usize) -> usize
+    requires { ⌜ (2 ≤ inputs) × (inputs ≤ 65536) × (1 ≤ depth) × (depth ≤ 16) ⌝ }
+    ensures { λ r. ⌜ (r ≡ gammaUnit inputs depth) × (inputs - 1 ≤ r) × (r ≤ 65535 * 65535) ⌝ }
+{
+    let cap_value = inputs - 1;
+    cap_value * 65535 / max_colors(depth)
+}
+
+// The gamma lookup, once its numbers are tested. The sum and half a unit can together pass the Rust's 32 bits, so they are worked wide.
+fn gamma(table: &[u16], inputs: usize, depth: usize, input: usize) -> u16
+    requires { ⌜ GammaFits (length (now table)) inputs depth input ⌝ }
+    ensures { λ r. ⌜ r ≡ gammaUp (now (table .entry)) inputs depth input ⌝ }
+{
+    let value = inside::weighted(table, input * (table.len() - 1), inputs - 1);
+    let unit = gamma_unit(inputs, depth);
+    ((value + unit / 2) / unit) as u16
+}
+
+// The Rust's integer gamma lookup with N = inputs, BIT_DEPTH = depth and T = u16. Its answer is a code of about `depth` bits, which can be one
+// more than these hold, and so is no sample.
+pub fn lut_interp_linear_gamma_impl(
+    table: &[u16],
+    inputs: usize,
+    depth: usize,
+    input: usize,
+) -> Coded
+    ensures { λ r. ⌜ GammaPromise (now (table .entry)) inputs depth input r ⌝ }
+{
+    if !sized(table.len()) {
+        return Coded::Refused(Refusal::TableLength);
+    }
+    if !spanned(inputs) {
+        return Coded::Refused(Refusal::OutsideRange);
+    }
+    if !within(1, 16, depth) {
+        return Coded::Refused(Refusal::OutsideRange);
+    }
+    if inputs <= input {
+        return Coded::Refused(Refusal::IndexBeyond);
+    }
+    Coded::Value(gamma(table, inputs, depth, input))
+}
+
+// The lookup at each position.
+fn fill_row(table: &[u16], positions: &[u16], out: &mut [u16])
+    requires { ⌜ sized (length (now table)) ≡ true ⌝ }
+    requires { ⌜ length (now out) ≡ length (now positions) ⌝ }
+    ensures { λ _. ⌜ now (out .exit) ≡ rowOf (now (table .entry)) (now (positions .entry)) ⌝ }
+{
+    let top = table.len() - 1;
+    let mut i = 0;
+    while i < positions.len() {
+        out[i] = inside::lookup_to(table, top, positions[i]);
+        i += 1;
+    }
+}
+
+// The same for a table of 65,536 entries, where the lookup at a position is that entry: one load for each.
+fn fill_row_baked(baked: &[u16], positions: &[u16], out: &mut [u16])
+    requires { ⌜ length (now baked) ≡ 65536 ⌝ }
+    requires { ⌜ length (now out) ≡ length (now positions) ⌝ }
+    ensures { λ _. ⌜ now (out .exit) ≡ rowOf (now (baked .entry)) (now (positions .entry)) ⌝ }
+{
+    let mut i = 0;
+    while i < positions.len() {
+        out[i] = baked[wide(positions[i])];
+        i += 1;
+    }
+}
+
+// The samples at a row of positions, the table tested once.
+pub fn lut_interp_linear16_row(table: &[u16], positions: &[u16], out: &mut [u16]) -> Done
+    ensures { λ r. ⌜ RowPromise (now (table .entry)) (now (positions .entry)) (now (out .entry)) r (now (out .exit)) ⌝ }
+{
+    if !sized(table.len()) {
+        return Done::Refused(Refusal::TableLength);
+    }
+    if out.len() != positions.len() {
+        return Done::Refused(Refusal::OutputLength);
+    }
+    if table.len() == 65536 {
+        fill_row_baked(table, positions, out);
+        return Done::Yes;
+    }
+    fill_row(table, positions, out);
+    Done::Yes
+}
+
+// The lookup at every position.
+fn fill_baked(table: &[u16], out: &mut [u16])
+    requires { ⌜ sized (length (now table)) ≡ true ⌝ }
+    requires { ⌜ length (now out) ≡ 65536 ⌝ }
+    ensures { λ _. ⌜ now (out .exit) ≡ bakedOf (now (table .entry)) ⌝ }
+{
+    let top = table.len() - 1;
+    let mut i = 0;
+    while i < 65536 {
+        out[i] = inside::lookup_to(table, top, i as u16);
+        i += 1;
+    }
+}
+
+// Fills `out` with the table's answers at every position. The 16-bit lookup in it answers as in the table, and a row of them takes one load each.
+pub fn bake(table: &[u16], out: &mut [u16]) -> Done
+    ensures { λ r. ⌜ BakePromise (now (table .entry)) (now (out .entry)) r (now (out .exit)) ⌝ }
+{
+    if !sized(table.len()) {
+        return Done::Refused(Refusal::TableLength);
+    }
+    if out.len() != 65536 {
+        return Done::Refused(Refusal::OutputLength);
+    }
+    fill_baked(table, out);
+    Done::Yes
+}
