@@ -83,9 +83,14 @@ unfolding sum
 self-sum f true a c C = ap (λ (t : Bool). cond t (round f false (a - a) c) (round f t (a - a) c)) (le-ltb a a (le-refl a)) ∙ round-null f false (a - a) c C (sub-self a)
 self-sum f false a c C = ap (λ (t : Bool). cond t (round f true (a - a) c) (round f false (a - a) c)) (le-ltb a a (le-refl a)) ∙ round-null f false (a - a) c C (sub-self a)
 
-pub minus-self : (f : Format) (s : Bool) (m : ℕ) (e : ℤ) → sub f (fin s m e) (fin s m e) ≡ nought
+minus-self : (f : Format) (s : Bool) (m : ℕ) (e : ℤ) → sub f (fin s m e) (fin s m e) ≡ nought
 unfolding sub
 minus-self f s m e = self-sum f s (m * up e * down e) (down e * down e) (mul-pos (down-pos e) (down-pos e))
+
+pub minus-itself : (f : Format) (x : Float) → T (finite x) → sub f x x ≡ nought
+minus-itself f nan F = absurd F
+minus-itself f (inf s) F = absurd F
+minus-itself f (fin s m e) F = minus-self f s m e
 
 -- ---- equal as numbers
 pub equals-itself : (x : Float) → T (finite x) → T (eq x x)
