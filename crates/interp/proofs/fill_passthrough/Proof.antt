@@ -6,7 +6,7 @@ use lib.ListN.{length}
 use lib.Ieee.{binary64}
 use denote.Ref.{now}
 use Rattle.table.proofs.Sizes.{within-low, within-high}
-use Rattle.table.proofs.Fill.{Filling, filling-start, filling-length, filling-more, filling-done}
+use Rattle.table.proofs.Fill.{Filling, filling-start, filling-more, filling-done}
 use Rattle.ieee.proofs.Range.{in-float}
 use Rattle.interp.specs.Interp.{passed}
 use Rattle.interp.proofs.Steps.{passed-gives}
@@ -31,7 +31,7 @@ loop-holds c = filling-start _ _
 int-to-float-nearest-f64-to-f32 : tie.Need-int-to-float-nearest-f64-to-f32 Inv-loop μ-loop
 int-to-float-nearest-f64-to-f32 c =
     let l = c .before .before in
-    in-float binary64 (l .loop .i) (omega (arith, filling-length _ (l .loop .inv), within-high 2 65536 _ (l .before .before .before .pre)))
+    in-float binary64 (l .loop .i) (omega (arith, l .loop .inv .size, within-high 2 65536 _ (l .before .before .before .pre)))
 
 nearest-f64-to-f32-requires : tie.Need-nearest-f64-to-f32-requires Inv-loop μ-loop
 nearest-f64-to-f32-requires c κs = tt
@@ -46,19 +46,19 @@ add-i : tie.Need-add-i Inv-loop μ-loop
 add-i c = omega arith
 
 loop-less : tie.Need-loop-less Inv-loop μ-loop
-loop-less c = omega (arith, filling-length _ (c .before .before .before .loop .inv))
+loop-less c = omega arith
 
 loop-again : tie.Need-loop-again Inv-loop μ-loop
 loop-again c =
     let l = c .before .before .before in
     let n = length (now (l .before .before .before .args .output)) in
-    filling-more _ (l .loop .inv) (omega (arith, filling-length _ (l .loop .inv))) (passed-gives n (l .loop .i) (c .nearest-f64-to-f32 .result) (c .nearest-f64-to-f32 .ensures))
+    filling-more _ (l .loop .inv) (omega arith) (passed-gives n (l .loop .i) (c .nearest-f64-to-f32 .result) (c .nearest-f64-to-f32 .ensures))
 
 same-length : tie.Need-same-length Inv-loop μ-loop
-same-length c = filling-length _ (c .before .loop .inv)
+same-length c = c .before .loop .inv .size
 
 returns : tie.Need-returns Inv-loop μ-loop
-returns c = filling-done _ (c .before .loop .inv) refl (omega (arith, filling-length _ (c .before .loop .inv)))
+returns c = filling-done _ (c .before .loop .inv) refl (omega arith)
 
 pub fill-passthrough-spec : {M : Type 1} → statement M
 fill-passthrough-spec = tie.close (tie.spec Inv-loop μ-loop sub-scale-value int-to-float-scale-value loop-holds int-to-float-nearest-f64-to-f32 nearest-f64-to-f32-requires mul-output slice-write-output add-i loop-less loop-again same-length returns)
