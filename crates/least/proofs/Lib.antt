@@ -1,0 +1,5 @@
+-- `LeastLaws`: the least input over any lookup that never falls.
+pub mod LeastLaws
+pub mod Bracket
+pub mod Tables
+pub mod Promises
