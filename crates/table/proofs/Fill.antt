@@ -6,7 +6,7 @@ use Prim.Native.Nat.{ℕ, zero, suc, _+_, _≤_, _<_, zero-le}
 use native.Mathlib.Nat.{le-refl, not-suc-le-zero, le-of-suc-le-suc, eq-or-lt-of-le}
 use native.Mathlib.Numerals.{add-one}
 use native.Mathlib.Omega.{arith}
-use lib.ListN.{length, getD, set, drop, length-append, length-drop, List·getD-append}
+use lib.ListN.{length, getD, set, drop, length-append, length-set, List·getD-append}
 use lib.Seq.{drop-cons, drop-length, set-at, getD-at}
 use Rattle.table.specs.Fill.{tabulated}
 
@@ -30,10 +30,6 @@ module _ {A : Type 0} (f : ℕ → A) where
   pub filled : ℕ → List A → List A
   filled i l = tabulated f i ++ drop i l
 
-  length-filled : (i : ℕ) (l : List A) → i ≤ length l → length (filled i l) ≡ length l
-  unfolding filled
-  length-filled i l h = simp (length-append, length-tabulated, length-drop) (omega arith)
-
   filled-none : (l : List A) → filled 0 l ≡ l
   unfolding filled tabulated
   filled-none [] = refl
@@ -54,18 +50,17 @@ module _ {A : Type 0} (f : ℕ → A) where
   -- A loop's proof needs these laws of it and nothing else.
   pub record Filling (old : List A) (i : ℕ) (buffer : List A) : Type 0 where
     pub inside : i ≤ length old
+    pub size : length buffer ≡ length old
     pub holds : buffer ≡ filled i old
 
   pub filling-start : (old : List A) → Filling old 0 old
-  filling-start old = record { inside = zero-le; holds = sym (filled-none old) }
+  filling-start old = record { inside = zero-le; size = refl; holds = sym (filled-none old) }
 
   module _ {old buffer : List A} {i : ℕ} (s : Filling old i buffer) where
-    pub filling-length : length buffer ≡ length old
-    filling-length = ap length (s .holds) ∙ length-filled i old (s .inside)
-
     pub filling-more : {x : A} → i < length old → x ≡ f i → Filling old (i + 1) (set buffer i x)
     filling-more {x} h e = record {
       inside = omega arith;
+      size = length-set buffer i x ∙ s .size;
       holds =
           ap (λ (l : List A). set l i x) (s .holds)
           ∙ ap (set (filled i old) i) e

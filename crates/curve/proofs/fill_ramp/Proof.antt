@@ -3,7 +3,7 @@ use mathlib.Core.Path.{refl}
 use Prim.Native.Nat.{_-_}
 use native.Mathlib.Omega.{arith}
 use borrow.Author.Needs.{needs}
-use Rattle.table.proofs.Fill.{Filling, filling-start, filling-length, filling-more, filling-done}
+use Rattle.table.proofs.Fill.{Filling, filling-start, filling-more, filling-done}
 use Rattle.curve.specs.Ramp.{ramp}
 use Rattle.curve.proofs.fill_ramp.Statement.{statement}
 use Rattle.curve.proofs.fill_ramp.Tie as tie
@@ -24,7 +24,7 @@ mul-table : tie.Need-mul-table Inv-loop μ-loop
 mul-table c = search needs
 
 slice-write-table : tie.Need-slice-write-table Inv-loop μ-loop
-slice-write-table c = omega (arith, filling-length _ (c .before .before .loop .inv))
+slice-write-table c = omega arith
 
 add-i : tie.Need-add-i Inv-loop μ-loop
 add-i c = omega arith
@@ -36,7 +36,7 @@ loop-again : tie.Need-loop-again Inv-loop μ-loop
 loop-again c = filling-more _ (c .before .before .loop .inv) (omega arith) (c .ramp .ensures)
 
 same-length : tie.Need-same-length Inv-loop μ-loop
-same-length c = filling-length _ (c .before .loop .inv)
+same-length c = c .before .loop .inv .size
 
 returns : tie.Need-returns Inv-loop μ-loop
 returns c = filling-done _ (c .before .loop .inv) refl (c .loop-test .left)

@@ -4,7 +4,7 @@ use native.Mathlib.Omega.{arith}
 use borrow.Author.Needs.{needs}
 use lib.ListN.{length}
 use Rattle.table.proofs.Sizes.{within-low}
-use Rattle.table.proofs.Fill.{Filling, filling-start, filling-length, filling-more, filling-done}
+use Rattle.table.proofs.Fill.{Filling, filling-start, filling-more, filling-done}
 use Rattle.least.specs.Promises.{leastRowAt}
 use Rattle.least.proofs.fill_least_row.Statement.{statement}
 use Rattle.least.proofs.fill_least_row.Tie as tie
@@ -46,7 +46,7 @@ mul-out c = search needs
 
 -- src/lib.rt:76:9
 slice-write-out : tie.Need-slice-write-out Inv-loop μ-loop
-slice-write-out c = omega (arith, filling-length _ (c .before .before .before .loop .inv))
+slice-write-out c = omega arith
 
 -- src/lib.rt:77:9
 add-i : tie.Need-add-i Inv-loop μ-loop
@@ -63,7 +63,7 @@ loop-again c =
 
 -- src/lib.rt:68:1
 same-length : tie.Need-same-length Inv-loop μ-loop
-same-length c = filling-length _ (c .before .loop .inv)
+same-length c = c .before .loop .inv .size
 
 -- src/lib.rt:68:1
 returns : tie.Need-returns Inv-loop μ-loop

@@ -3,7 +3,7 @@ use Prim.Native.Nat.{_-_}
 use native.Mathlib.Omega.{arith}
 use borrow.Author.Needs.{needs}
 use Rattle.table.proofs.Sizes.{within-low, within-high}
-use Rattle.table.proofs.Fill.{Filling, filling-start, filling-length, filling-more, filling-done}
+use Rattle.table.proofs.Fill.{Filling, filling-start, filling-more, filling-done}
 use Rattle.lookup.specs.Lookup.{lookedUp}
 use Rattle.lookup.proofs.fill_baked.Statement.{statement}
 use Rattle.lookup.proofs.fill_baked.Tie as tie
@@ -32,7 +32,7 @@ mul-out : tie.Need-mul-out Inv-loop μ-loop
 mul-out c = search needs
 
 slice-write-out : tie.Need-slice-write-out Inv-loop μ-loop
-slice-write-out c = omega (arith, filling-length _ (c .before .before .loop .inv))
+slice-write-out c = omega arith
 
 add-i : tie.Need-add-i Inv-loop μ-loop
 add-i c = omega arith
@@ -46,7 +46,7 @@ loop-again c =
     filling-more _ (l .loop .inv) (omega arith) (c .lookup-to .ensures)
 
 same-length : tie.Need-same-length Inv-loop μ-loop
-same-length c = filling-length _ (c .before .loop .inv)
+same-length c = c .before .loop .inv .size
 
 returns : tie.Need-returns Inv-loop μ-loop
 returns c = filling-done _ (c .before .loop .inv) (c .before .before .before .before .pre .1) (c .loop-test .left)

@@ -4,7 +4,7 @@ use native.Mathlib.Omega.{arith}
 use borrow.Author.Needs.{needs}
 use lib.ListN.{length}
 use Rattle.table.proofs.Sizes.{within-low, within-high}
-use Rattle.table.proofs.Fill.{Filling, filling-start, filling-length, filling-more, filling-done}
+use Rattle.table.proofs.Fill.{Filling, filling-start, filling-more, filling-done}
 use Rattle.lookup.specs.Lookup.{rowAt}
 use Rattle.lookup.proofs.fill_row.Statement.{statement}
 use Rattle.lookup.proofs.fill_row.Tie as tie
@@ -36,7 +36,7 @@ mul-out : tie.Need-mul-out Inv-loop μ-loop
 mul-out c = search needs
 
 slice-write-out : tie.Need-slice-write-out Inv-loop μ-loop
-slice-write-out c = omega (arith, filling-length _ (c .before .before .before .loop .inv))
+slice-write-out c = omega arith
 
 add-i : tie.Need-add-i Inv-loop μ-loop
 add-i c = omega arith
@@ -50,7 +50,7 @@ loop-again c =
     filling-more _ (l .loop .inv) (omega arith) (c .lookup-to .ensures)
 
 same-length : tie.Need-same-length Inv-loop μ-loop
-same-length c = filling-length _ (c .before .loop .inv)
+same-length c = c .before .loop .inv .size
 
 returns : tie.Need-returns Inv-loop μ-loop
 returns c = filling-done _ (c .before .loop .inv) (c .before .before .before .before .before .pre .1) (c .loop-test .left)

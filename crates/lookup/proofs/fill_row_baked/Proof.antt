@@ -5,7 +5,7 @@ use native.Mathlib.Omega.{arith}
 use borrow.Author.Needs.{needs}
 use lib.ListN.{length}
 use denote.Ref.{now}
-use Rattle.table.proofs.Fill.{Filling, filling-start, filling-length, filling-more, filling-done}
+use Rattle.table.proofs.Fill.{Filling, filling-start, filling-more, filling-done}
 use Rattle.lookup.specs.Lookup.{rowAt}
 use Rattle.lookup.proofs.LookupLaws.{looked-up-full}
 use Rattle.lookup.proofs.fill_row_baked.Statement.{statement}
@@ -39,7 +39,7 @@ mul-out-2 : tie.Need-mul-out-2 Inv-loop μ-loop
 mul-out-2 c = search needs
 
 slice-write-out : tie.Need-slice-write-out Inv-loop μ-loop
-slice-write-out c = omega (arith, filling-length _ (c .before .before .before .before .loop .inv))
+slice-write-out c = omega arith
 
 add-i : tie.Need-add-i Inv-loop μ-loop
 add-i c = omega arith
@@ -55,7 +55,7 @@ loop-again c =
     (rw (c .before .wide .ensures .0) (sym (looked-up-full (now (s .args .baked)) (s .pre .0) _)))
 
 same-length : tie.Need-same-length Inv-loop μ-loop
-same-length c = filling-length _ (c .before .loop .inv)
+same-length c = c .before .loop .inv .size
 
 returns : tie.Need-returns Inv-loop μ-loop
 returns c = filling-done _ (c .before .loop .inv) (c .before .before .before .before .before .pre .1) (c .loop-test .left)

@@ -1,0 +1,84 @@
+-- `count_entries` meets its contract: each answer is that of the first test that fails, past those that hold. Assumes nothing.
+use native.Mathlib.Omega.{arith}
+use Rattle.table.proofs.Choice.{fails, holds}
+use Rattle.curv.proofs.Checks.{short, unsigned, unreserved, many, unwhole, right}
+use Rattle.curv.proofs.Promises.{count-refused, count-granted}
+use borrow.Author.Needs.{needs}
+use Rattle.curv.proofs.count_entries.Statement.{statement}
+use Rattle.curv.proofs.count_entries.Tie as tie
+
+returns : tie.Need-returns
+returns c = count-refused _ _ (short _ (c .if1 .taken))
+
+signed-requires : tie.Need-signed-requires
+signed-requires c κs = search needs
+
+returns-2 : tie.Need-returns-2
+returns-2 c = count-refused _ _ (unsigned _ (omega arith) (fails (c .before .signed .ensures) (c .if2 .taken)))
+
+reserved-requires : tie.Need-reserved-requires
+reserved-requires c κs = search needs
+
+returns-3 : tie.Need-returns-3
+returns-3 c =
+    let second = c .before .before in
+    count-refused _ _
+    (unreserved _ (omega arith) (holds (second .before .signed .ensures) (second .if2 .left))
+    (fails (c .before .reserved .ensures) (c .if3 .taken)))
+
+u32-at-requires : tie.Need-u32-at-requires
+u32-at-requires c κs = search needs
+
+cast-n : tie.Need-cast-n
+cast-n c = search needs
+
+returns-4 : tie.Need-returns-4
+returns-4 c =
+    let third = c .before .before in
+    let second = third .before .before in
+    count-refused _ _
+    (many _ (omega arith) (holds (second .before .signed .ensures) (second .if2 .left))
+    (holds (third .before .reserved .ensures) (third .if3 .left))
+    (omega arith))
+
+whole-requires : tie.Need-whole-requires
+whole-requires c κs = search needs
+
+returns-5 : tie.Need-returns-5
+returns-5 c =
+    let fourth = c .before .before in
+    let third = fourth .before .before in
+    let second = third .before .before in
+    count-refused _ _
+    (unwhole _ (omega arith) (holds (second .before .signed .ensures) (second .if2 .left))
+    (holds (third .before .reserved .ensures) (third .if3 .left))
+    _ (fourth .before .u32-at .ensures) (omega arith)
+    (fails (c .before .whole .ensures) (c .if5 .taken)))
+
+returns-6 : tie.Need-returns-6
+returns-6 c =
+    let fourth = c .before .before in
+    let third = fourth .before .before in
+    let second = third .before .before in
+    count-granted _ _
+    (right _ (omega arith) (holds (second .before .signed .ensures) (second .if2 .left))
+    (holds (third .before .reserved .ensures) (third .if3 .left))
+    _ (fourth .before .u32-at .ensures) (omega arith)
+    (holds (c .before .whole .ensures) (c .if5 .left)))
+    (fourth .before .u32-at .ensures)
+
+pub count-entries-spec : {M : Type 1} → statement M
+count-entries-spec =
+    tie.close
+    (tie.spec
+    returns
+    signed-requires
+    returns-2
+    reserved-requires
+    returns-3
+    u32-at-requires
+    cast-n
+    returns-4
+    whole-requires
+    returns-5
+    returns-6)

@@ -1,0 +1,46 @@
+-- The curv tag of ICC.1, byte by byte: 63 75 72 76 (hexadecimal), four zero bytes, a 32-bit count n, n 16-bit entries. Assumes nothing.
+use Prim.Native.Nat.{ℕ, _+_, _*_}
+use mathlib.Core.Bool.{Bool}
+use mathlib.Core.List.{List, [], _∷_, _++_}
+use lib.ListN.{length, take, drop}
+use lib.Dec.{eqb}
+use Rattle.table.specs.Fill.{tabulated}
+use Rattle.icc.specs.Bytes.{be16, be32, bytes16, bytes32}
+use Rattle.icc.specs.Opening.{signedBy, opening}
+
+-- the signature
+abbrev pub isCurv : List ℕ → Bool
+isCurv b = signedBy 99 117 114 118 b
+
+-- What a tag holds: its count, at byte 8; entry i, the two bytes at 12 + 2i; and its entries, as many as the count says.
+abbrev pub countOf : List ℕ → ℕ
+countOf b = be32 b 8
+
+unfoldable pub entryAt : List ℕ → ℕ → ℕ
+entryAt b i = be16 b (12 + 2 * i)
+
+abbrev pub entriesOf : List ℕ → List ℕ
+entriesOf b = tabulated (entryAt b) (countOf b)
+
+-- the bytes of its entries: 12 to 12 + 2n, by the count
+abbrev pub partOf : List ℕ → List ℕ
+partOf b = take (2 * countOf b) (drop 12 b)
+
+-- 12 + 2n, where the last of n entries ends
+abbrev pub tagLength : ℕ → ℕ
+tagLength n = 12 + 2 * n
+
+-- which totals a tag of n entries may have: exactly that
+unfoldable pub total : ℕ → ℕ → Bool
+total n len = eqb len (tagLength n)
+
+-- What is written for a table: the first twelve bytes, and each entry's two.
+unfoldable pub head : ℕ → List ℕ
+head n = opening 99 117 114 118 ++ bytes32 n
+
+unfoldable pub bytesOf : List ℕ → List ℕ
+bytesOf [] = []
+bytesOf (x ∷ t) = bytes16 x ++ bytesOf t
+
+abbrev pub tagOf : List ℕ → List ℕ
+tagOf t = head (length t) ++ bytesOf t

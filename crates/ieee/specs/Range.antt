@@ -1,0 +1,19 @@
+-- The whole numbers as floats, and what it is to lie from 0 to one of them. Assumes nothing.
+use Prim.Native.Nat.{ℕ}
+use mathlib.Core.Bool.{Bool, false, _&&_}
+use lib.IntN.{pos}
+use lib.Ieee.{Float, fin, le}
+
+-- the number k, for comparisons: from 2 on a float is written with an odd m, so this is no bit pattern's value
+abbrev pub whole : ℕ → Float
+whole k = fin false k (pos 0)
+
+abbrev pub nought : Float
+nought = whole 0
+
+abbrev pub one : Float
+one = whole 1
+
+-- 0 ≤ x ≤ k by the comparisons of IEEE 754: -0.0 is among them, a NaN and the infinities are not
+unfoldable pub upto : ℕ → Float → Bool
+upto k x = le nought x && le x (whole k)

@@ -1,0 +1,5 @@
+pub mod Cut
+pub mod Size
+pub mod Narrow
+pub mod Fixed
+pub mod Answers
