@@ -1,6 +1,6 @@
 -- The least input over any lookup f that never falls: f is at least v exactly from the least input on. `first` is searched for once, here.
 -- Assumes nothing.
-use mathlib.Core.Path.{_≡_, _∙_, refl, sym, subst}
+use mathlib.Core.Path.{_≡_, refl, sym, subst}
 use mathlib.Core.Logic.{⊎-elim, _↔_}
 use mathlib.Core.Bool.{Bool, true, false}
 use Prim.Native.Nat.{ℕ, zero, suc, _+_, _≤_, _<_, zero-le}

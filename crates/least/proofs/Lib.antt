@@ -3,3 +3,5 @@ pub mod LeastLaws
 pub mod Bracket
 pub mod Tables
 pub mod Promises
+pub mod Demand
+mod Worked

@@ -3,31 +3,24 @@
 -- numbered answer (`least-answer`, `least-row-answer`), and a refused row leaves its buffer as it was (`least-row-refused`).
 -- Assumes nothing.
 use mathlib.Core.Path.{_≡_, _∙_, refl, sym, ap}
-use mathlib.Core.Logic.{_↔_}
-use mathlib.Core.Bool.{true, false}
 use mathlib.Core.List.{List}
 use Prim.Native.Nat.{ℕ, _≤_, _<_}
-use native.Mathlib.Omega.{arith}
-use borrow.Author.Tests.{leb-true, le-leb, lt-leb}
+use borrow.Author.Tests.{le-leb, lt-leb}
 use lib.ListN.{length, getD}
-use lib.Dec.{leb, eqb}
-use Rattle.table.specs.Sizes.{sized}
-use Rattle.table.specs.Order.{nondecreasing}
-use Rattle.table.specs.Refusals.{Verdict, granted, refused, rung, numberIn, ifGranted}
-use Rattle.table.specs.Answers.{numberOfDone, numberOfSought, valueOfSought}
+use Rattle.table.specs.Refusals.{Verdict, granted, refused, numberIn, ifGranted}
+use Rattle.table.specs.Answers.{numberOfSought, valueOfSought}
 use Rattle.table.specs.declared.Density.{Density}
-use Rattle.table.specs.declared.Drive.{Drive}
 use Rattle.table.specs.declared.Done.{Done}
 use Rattle.table.specs.declared.Sought.{Sought}
 use Rattle.table.specs.declared.Refusal.{Refusal}
-use Rattle.table.specs.declared.Refusal.the-variants.{TableLength, NotNondecreasing, AboveLast, OutputLength}
-use Rattle.table.proofs.Refusals.{same-verdict, rung-granted}
+use Rattle.table.specs.declared.Refusal.the-variants.{AboveLast}
+use Rattle.table.proofs.Refusals.{same-verdict}
 use Rattle.table.proofs.Answers.{same-done, same-sought}
 use Rattle.table.proofs.Fill.{getD-tabulated}
 use Rattle.lookup.specs.Lookup.{lookedUp}
 use Rattle.least.specs.Least.{leastOf}
 use Rattle.least.specs.Inside.{Searchable}
-use Rattle.least.specs.Promises.{lastEntry, leastVerdict, LeastPromise, rowPosition, leastRowAt, leastRowOf, leastRowVerdict, LeastRowPromise}
+use Rattle.least.specs.Promises.{lastEntry, leastVerdict, LeastPromise, leastRowAt, leastRowOf, leastRowVerdict, LeastRowPromise}
 
 -- The single call.
 -- the answer that a verdict and a position come to

@@ -8,9 +8,6 @@ use Rattle.table.proofs.Fill.{Filling, filling-start, filling-more, filling-don
 use Rattle.least.specs.Promises.{leastRowAt}
 use Rattle.least.proofs.fill_least_row.Statement.{statement}
 use Rattle.least.proofs.fill_least_row.Tie as tie
-use Rattle.least.proofs.fill_least_row.Reads as reads
-use Rattle.least.proofs.fill_least_row.Lts as lts
-use Rattle.least.proofs.row_position.Reads as row-position-reads
 
 abbrev Inv-loop : tie.InvT-loop
 Inv-loop table values out₀ top i₀ out i = Filling (leastRowAt table values) out₀ i out
@@ -18,54 +15,42 @@ Inv-loop table values out₀ top i₀ out i = Filling (leastRowAt table values) 
 abbrev μ-loop : tie.MeasureT-loop
 μ-loop table values out₀ top i₀ out i = length values - i
 
--- src/lib.rt:73:15
 sub-top : tie.Need-sub-top Inv-loop μ-loop
 sub-top c = within-low 1 65536 _ (c .before .before .before .pre .0 .size)
 
--- src/lib.rt:75:5
 loop-holds : tie.Need-loop-holds Inv-loop μ-loop
 loop-holds c = filling-start _ _
 
--- src/lib.rt:76:43
 mul-row-position : tie.Need-mul-row-position Inv-loop μ-loop
 mul-row-position c = search needs
 
--- src/lib.rt:76:43
 shared-slice-read-row-position : tie.Need-shared-slice-read-row-position Inv-loop μ-loop
 shared-slice-read-row-position c = omega arith
 
--- src/lib.rt:76:18
 row-position-requires : tie.Need-row-position-requires Inv-loop μ-loop
 row-position-requires c κs =
     let p = c .before .before .before .before .before .before .pre .0 in
     (p, omega (arith, within-low 1 65536 _ (p .size)))
 
--- src/lib.rt:76:9
 mul-out : tie.Need-mul-out Inv-loop μ-loop
 mul-out c = search needs
 
--- src/lib.rt:76:9
 slice-write-out : tie.Need-slice-write-out Inv-loop μ-loop
 slice-write-out c = omega arith
 
--- src/lib.rt:77:9
 add-i : tie.Need-add-i Inv-loop μ-loop
 add-i c = omega arith
 
--- src/lib.rt:75:5
 loop-less : tie.Need-loop-less Inv-loop μ-loop
 loop-less c = omega arith
 
--- src/lib.rt:75:5
 loop-again : tie.Need-loop-again Inv-loop μ-loop
 loop-again c =
     filling-more _ (c .before .before .before .loop .inv) (omega arith) (c .row-position .ensures)
 
--- src/lib.rt:68:1
 same-length : tie.Need-same-length Inv-loop μ-loop
 same-length c = c .before .loop .inv .size
 
--- src/lib.rt:68:1
 returns : tie.Need-returns Inv-loop μ-loop
 returns c = filling-done _ (c .before .loop .inv) (c .before .before .before .before .before .pre .1) (c .loop-test .left)
 

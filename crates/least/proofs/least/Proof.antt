@@ -1,12 +1,8 @@
 -- `least` meets its contract. The invariant: the least input is bracketed by the two positions. Assumes nothing.
-use mathlib.Core.Path.{_≡_}
-use Prim.Native.Nat.{ℕ, _-_, _≤_}
+use Prim.Native.Nat.{_-_}
 use native.Mathlib.Omega.{arith}
-use borrow.Author.Needs.{needs}
-use denote.Ref.{now}
-use Rattle.table.proofs.Sizes.{within-low, within-high}
+use Rattle.table.proofs.Sizes.{within-high}
 use Rattle.lookup.specs.Lookup.{lookedUp}
-use Rattle.least.specs.Least.{NeverFalls}
 use Rattle.least.proofs.Bracket.{Bracket, bracket-start, bracket-up, bracket-down, bracket-end}
 use Rattle.least.proofs.Tables.{table-rises, table-ends}
 use Rattle.least.proofs.least.Statement.{statement}

@@ -1,22 +1,13 @@
 -- `least_input` meets its promise, rung by rung, and past them the search. Assumes nothing.
-use mathlib.Core.Path.{_≡_}
-use Prim.Native.Nat.{_-_, _≤_, _<_}
 use native.Mathlib.Omega.{arith}
 use borrow.Author.Needs.{needs}
 use borrow.Author.Tests.{le-leb, lt-leb}
 use denote.Ref.{now}
-use lib.ListN.{length}
 use Rattle.table.proofs.Choice.{fails, holds}
 use Rattle.table.proofs.Sizes.{within-low}
 use Rattle.least.specs.Inside.{Searchable}
-use Rattle.least.specs.Promises.{lastEntry}
 use Rattle.least.proofs.least_input.Statement.{statement}
 use Rattle.least.proofs.least_input.Tie as tie
-use Rattle.least.proofs.least_input.Reads as reads
-use Rattle.least.proofs.least_input.Lts as lts
-use Rattle.least.proofs.least.Reads as least-reads
-use Rattle.table.proofs.in_order.Reads as in-order-reads
-use Rattle.table.proofs.sized.Reads as sized-reads
 
 searchable : (c : tie.Else2) → Searchable (now (c .before .before .before .before .before .args .table))
 searchable c = record {
@@ -27,53 +18,43 @@ searchable c = record {
 sized-requires : tie.Need-sized-requires
 sized-requires c κs = search needs
 
--- src/lib.rt:43:9
 returns : tie.Need-returns
 returns c =
     let f = fails (c .before .sized .ensures) (c .if1 .taken) in
     record { number = simp f; value = simp f }
 
--- src/lib.rt:45:9
 in-order-requires : tie.Need-in-order-requires
 in-order-requires c κs = search needs
 
--- src/lib.rt:46:9
 returns-2 : tie.Need-returns-2
 returns-2 c =
     let h = holds (c .before .before .before .sized .ensures) (c .before .before .if1 .left) in
     let f = fails (c .before .in-order .ensures) (c .if2 .taken) in
     record { number = simp (h, f); value = simp (h, f) }
 
--- src/lib.rt:48:15
 sub-top : tie.Need-sub-top
 sub-top c = within-low 1 65536 _ (searchable c .size)
 
--- src/lib.rt:49:8
 mul-if3 : tie.Need-mul-if3
 mul-if3 c = search needs
 
--- src/lib.rt:49:8
 shared-slice-read-if3 : tie.Need-shared-slice-read-if3
 shared-slice-read-if3 c = omega (arith, within-low 1 65536 _ (searchable (c .before) .size))
 
--- src/lib.rt:50:9
 returns-3 : tie.Need-returns-3
 returns-3 c =
     let s = searchable (c .before .before .before) in
     let f = lt-leb _ _ (c .if3 .taken) in
     record { number = simp (s .size, s .order, f); value = simp (s .size, s .order, f) }
 
--- src/lib.rt:52:22
 least-requires : tie.Need-least-requires
 least-requires c κs =
     let s = searchable (c .before .before .before) in
     (s, (omega (arith, within-low 1 65536 _ (s .size)), c .if3 .left))
 
--- src/lib.rt:52:22
 cast-t10 : tie.Need-cast-t10
 cast-t10 c = search needs
 
--- src/lib.rt:39:1
 returns-4 : tie.Need-returns-4
 returns-4 c =
     let s = searchable (c .before .before .before .before) in

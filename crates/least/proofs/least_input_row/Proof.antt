@@ -6,11 +6,6 @@ use Rattle.table.proofs.Choice.{fails, holds}
 use Rattle.least.specs.Inside.{Searchable}
 use Rattle.least.proofs.least_input_row.Statement.{statement}
 use Rattle.least.proofs.least_input_row.Tie as tie
-use Rattle.least.proofs.least_input_row.Reads as reads
-use Rattle.least.proofs.least_input_row.Lts as lts
-use Rattle.least.proofs.fill_least_row.Reads as fill-least-row-reads
-use Rattle.table.proofs.in_order.Reads as in-order-reads
-use Rattle.table.proofs.sized.Reads as sized-reads
 
 searchable : (c : tie.Else3) → Searchable (now (c .before .before .before .before .before .before .before .before .args .table))
 searchable c = record {
@@ -21,24 +16,20 @@ searchable c = record {
 sized-requires : tie.Need-sized-requires
 sized-requires c κs = search needs
 
--- src/lib.rt:86:9
 returns : tie.Need-returns
 returns c =
     let f = fails (c .before .sized .ensures) (c .if1 .taken) in
     record { number = simp f; after = simp f }
 
--- src/lib.rt:89:9
 returns-2 : tie.Need-returns-2
 returns-2 c =
     let h = holds (c .before .before .sized .ensures) (c .before .if1 .left) in
     let f = ne-eqb _ _ (c .if2 .taken) in
     record { number = simp (h, f); after = simp (h, f) }
 
--- src/lib.rt:91:9
 in-order-requires : tie.Need-in-order-requires
 in-order-requires c κs = search needs
 
--- src/lib.rt:92:9
 returns-3 : tie.Need-returns-3
 returns-3 c =
     let e = c .before .before in
@@ -47,15 +38,12 @@ returns-3 c =
     let f = fails (c .before .in-order .ensures) (c .if3 .taken) in
     record { number = simp (h, l, f); after = simp (h, l, f) }
 
--- src/lib.rt:94:5
 fill-least-row-requires : tie.Need-fill-least-row-requires
 fill-least-row-requires c κs = (searchable (c .before), c .before .before .before .if2 .left)
 
--- src/lib.rt:82:1
 same-length : tie.Need-same-length
 same-length c = search needs
 
--- src/lib.rt:82:1
 returns-4 : tie.Need-returns-4
 returns-4 c =
     let e = c .before .before .before .before in

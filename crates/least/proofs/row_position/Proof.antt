@@ -1,5 +1,4 @@
 -- `row_position` meets its contract: past the tests of the table only the last entry decides whether there is a least input. Assumes nothing.
-use mathlib.Core.Path.{_≡_}
 use Prim.Native.Nat.{_≤_, _<_}
 use native.Mathlib.Omega.{arith}
 use borrow.Author.Needs.{needs}
@@ -9,36 +8,27 @@ use Rattle.least.specs.Promises.{lastEntry}
 use Rattle.least.proofs.Tables.{last-at}
 use Rattle.least.proofs.row_position.Statement.{statement}
 use Rattle.least.proofs.row_position.Tie as tie
-use Rattle.least.proofs.row_position.Reads as reads
-use Rattle.least.proofs.row_position.Lts as lts
-use Rattle.least.proofs.least.Reads as least-reads
 
--- src/lib.rt:61:8
 mul-if1 : tie.Need-mul-if1
 mul-if1 c = search needs
 
--- src/lib.rt:61:8
 shared-slice-read-if1 : tie.Need-shared-slice-read-if1
 shared-slice-read-if1 c = search needs
 
--- src/lib.rt:62:9
 returns : tie.Need-returns
 returns c =
     let b = c .before .before .before in
     let l : lastEntry (now (b .args .table)) < b .args .v = omega (arith, last-at (now (b .args .table)) (b .args .top) (b .pre .1)) in
     simp (b .pre .0 .size, b .pre .0 .order, lt-leb _ _ l)
 
--- src/lib.rt:64:5
 least-requires : tie.Need-least-requires
 least-requires c κs =
     let b = c .before .before .before in
     (b .pre .0, (b .pre .1, omega (arith, last-at (now (b .args .table)) (b .args .top) (b .pre .1))))
 
--- src/lib.rt:64:5
 cast-result : tie.Need-cast-result
 cast-result c = search needs
 
--- src/lib.rt:56:1
 returns-2 : tie.Need-returns-2
 returns-2 c =
     let b = c .before .before .before .before in
