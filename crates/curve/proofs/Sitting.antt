@@ -43,6 +43,9 @@ module _ {s : Sitting} (h : Held s) where
   pub held-bits : SixteenBits (s .table)
   held-bits = h .bits
 
+  pub held-in-order : {s₀ : Sitting} → length (s .table) ≡ length (s₀ .table) → InOrder s₀ s
+  held-in-order e = record { order = held-order; same-length = e }
+
 -- the straight curve has it
 module _ (n : ℕ) (h : spanned n ≡ true) where
   ramp-order : Nondecreasing (rampOf n)
@@ -131,7 +134,7 @@ module _ {lent : Sitting} {opening : Turn} {nudges : List Turn} (w : WholeSittin
 
 pub sitting-keeps-order : SittingKeepsOrder
 sitting-keeps-order lent opening nudges w =
-    sitting-throughout w (InOrder (opening .after)) (λ s h e. record { order = held-order h; same-length = e })
+    sitting-throughout w (InOrder (opening .after)) (λ s h e. held-in-order h e)
 
 -- Every granted start or accept begins a sitting,
 module _ (lent : Sitting) (b : SixteenBits (lent .table)) where

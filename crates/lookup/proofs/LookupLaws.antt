@@ -1,10 +1,11 @@
 -- The laws of the 16-bit lookup. On any source of entries: it lies between its two entries, is exact on an entry, and depends on those two alone.
 -- On a nondecreasing one: it never falls as the position rises. A baked table answers as the table does.
 -- Assumes nothing.
-use mathlib.Core.Path.{_≡_, _∙_, ap}
+use mathlib.Core.Path.{_≡_, _∙_, ap, sym, subst}
+use mathlib.Core.Logic.{_↔_}
 use mathlib.Core.Bool.{true}
 use mathlib.Core.List.{List}
-use Prim.Native.Nat.{ℕ, _-_, _*_, _/_, _≤_, _<_, min, max}
+use Prim.Native.Nat.{ℕ, _+_, _-_, _*_, _/_, _≤_, _<_, min, max}
 use native.Mathlib.Nat.{le-of-suc-le-suc, mul-comm, mul-div-cancel, mul-mod-left, div-le-of-le-mul, le-div-iff-mul-le, min-le-left, min-le-right, le-max-left, le-max-right}
 use native.Mathlib.Omega.{arith}
 use lib.ListN.{length, getD}
@@ -14,9 +15,9 @@ use Rattle.table.specs.Order.{Nondecreasing, SixteenBits}
 use Rattle.table.proofs.Sizes.{within-low}
 use Rattle.table.proofs.Fill.{length-tabulated, getD-tabulated}
 use Rattle.lookup.specs.Demand.{LookupObeys}
-use Rattle.lookup.specs.Lookup.{lower, upper, steps, lookup16, entriesOf, lookedUp, bakedOf}
+use Rattle.lookup.specs.Lookup.{lower, upper, weighted, steps, lookup16, entriesOf, lookedUp, bakedOf}
 use Rattle.lookup.proofs.Steps.{steps-le}
-use Rattle.lookup.proofs.Sum.{Rises, div-mono, sum-same, sum-on-entry, sum-at-most, sum-at-least, sum-first, sum-last, lower-le-sum, sum-le-upper, sum-rises}
+use Rattle.lookup.proofs.Sum.{Rises, div-mono, sum-same, sum-on-entry, sum-steps, sum-at-most, sum-at-least, sum-first, sum-last, lower-le-sum, sum-le-upper, sum-rises}
 
 cap>0 : 0 < 65535
 cap>0 = lit< tt
@@ -51,6 +52,13 @@ module _ (T : ℕ → ℕ) (n : ℕ) where
   pub lookup-last : lookup16 T n 65535 ≡ T (n - 1)
   unfolding lookup16
   lookup-last = ap (λ (s : ℕ). s / 65535) (sum-last 65535 T cap>0 n) ∙ mul-div-cancel (T (n - 1)) cap>0
+
+-- c entries passed and k of 65535 steps towards the next, up to that one itself: the lookup is at least m exactly if the two entries, so weighed, are
+pub lookup-reaches : (T : ℕ → ℕ) (n p m c k : ℕ) → steps n p ≡ c * 65535 + k → k ≤ 65535 → (m ≤ lookup16 T n p) ↔ (m * 65535 ≤ T (c + 1) * k + T c * (65535 - k))
+unfolding lookup16
+lookup-reaches T n p m c k e h =
+    let s : weighted 65535 T (steps n p) ≡ T (c + 1) * k + T c * (65535 - k) = ap (weighted 65535 T) e ∙ sum-steps 65535 T cap>0 c k h in
+    ((λ r. subst (λ (x : ℕ). m * 65535 ≤ x) s (le-div-iff-mul-le cap>0 .0 r)), (λ r. le-div-iff-mul-le cap>0 .1 (subst (λ (x : ℕ). m * 65535 ≤ x) (sym s) r)))
 
 -- of 65,536 entries the lookup at p is entry p
 pub lookup-full : (T : ℕ → ℕ) (p : ℕ) → lookup16 T 65536 p ≡ T p

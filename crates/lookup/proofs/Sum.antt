@@ -4,7 +4,7 @@
 use mathlib.Core.Path.{_≡_, _∙_, ap, sym}
 use mathlib.Core.Logic.{⊎-elim}
 use Prim.Native.Nat.{ℕ, _+_, _-_, _*_, _/_, _%_, _≤_, _<_}
-use native.Mathlib.Nat.{le-refl, le-trans, le-of-eq, le-of-lt, mul-zero, zero-mul, zero-add, sub-zero, div-add-mod', div-mul-le-self, mod-lt, eq-zero-or-pos, eq-or-lt-of-le, le-div-iff-mul-le, zero-div, zero-mod, mul-mod-right, mul-div-right, mul-le-mul-right}
+use native.Mathlib.Nat.{le-refl, le-trans, le-of-eq, le-of-lt, mul-zero, zero-mul, zero-add, sub-zero, div-add-mod', div-mul-le-self, mod-lt, eq-zero-or-pos, eq-or-lt-of-le, le-div-iff-mul-le, zero-div, zero-mod, mul-mod-right, mul-div-right, mul-le-mul-right, mul-add-div-right, mul-add-mod-self-right, div-eq-of-lt, mod-eq-of-lt, mod-self, div-self, sub-self, add-zero}
 use native.Mathlib.Omega.{arith}
 use Rattle.lookup.specs.Lookup.{lower, rest, upper, weighted, steps}
 use Rattle.lookup.proofs.Weigh.{sum-le, le-sum, sum-mono}
@@ -57,6 +57,28 @@ plain cap T v = ⊎-elim none some (eq-zero-or-pos (v % cap))
 
     some : 0 < v % cap → T (upper cap v) * rest cap v ≡ T (lower cap v + 1) * rest cap v
     some h = ap (λ (i : ℕ). T i * rest cap v) (upper-off cap v h)
+
+-- c entries passed and k of cap steps towards the next, up to that one itself: the two entries, so weighed
+module _ (cap : ℕ) (T : ℕ → ℕ) (pos : 0 < cap) (c k : ℕ) where
+  sum-between : k < cap → weighted cap T (c * cap + k) ≡ T (c + 1) * k + T c * (cap - k)
+  unfolding weighted
+  sum-between h =
+      let v = c * cap + k in
+      let q : v / cap ≡ c = mul-add-div-right pos c k ∙ ap (λ (n : ℕ). c + n) (div-eq-of-lt h) ∙ add-zero c in
+      let r : v % cap ≡ k = mul-add-mod-self-right c cap k ∙ mod-eq-of-lt h in
+      ap (λ (b : ℕ). b + T (v / cap) * (cap - v % cap)) (plain cap T v)
+      ∙ ap (λ (i : ℕ). T (i + 1) * (v % cap) + T i * (cap - v % cap)) q
+      ∙ ap (λ (j : ℕ). T (c + 1) * j + T c * (cap - j)) r
+
+  sum-next : k ≡ cap → weighted cap T (c * cap + k) ≡ T (c + 1) * k + T c * (cap - k)
+  sum-next e =
+      rw e
+      (sum-on-entry cap T pos (c * cap + cap) (mul-add-mod-self-right c cap cap ∙ mod-self cap)
+      ∙ ap (λ (i : ℕ). T i * cap) (mul-add-div-right pos c cap ∙ ap (λ (n : ℕ). c + n) (div-self pos))
+      ∙ simp (sub-self, mul-zero, add-zero))
+
+  pub sum-steps : k ≤ cap → weighted cap T (c * cap + k) ≡ T (c + 1) * k + T c * (cap - k)
+  sum-steps h = ⊎-elim sum-next sum-between (eq-or-lt-of-le h)
 
 module _ (cap n : ℕ) (T : ℕ → ℕ) (pos : 0 < cap) (some : 0 < n) (R : Rises n T) where
   ordered : (v : ℕ) → v ≤ (n - 1) * cap → T (lower cap v) ≤ T (upper cap v)

@@ -18,7 +18,7 @@ loop-holds : tie.Need-loop-holds Inv-loop μ-loop
 loop-holds c = filling-start _ _
 
 ramp-requires : tie.Need-ramp-requires Inv-loop μ-loop
-ramp-requires c κs = (c .before .before .before .pre, c .loop-test .taken)
+ramp-requires c κs = (c .before .before .before .pre, omega arith)
 
 mul-table : tie.Need-mul-table Inv-loop μ-loop
 mul-table c = search needs
@@ -33,7 +33,7 @@ loop-less : tie.Need-loop-less Inv-loop μ-loop
 loop-less c = omega arith
 
 loop-again : tie.Need-loop-again Inv-loop μ-loop
-loop-again c = filling-more _ (c .before .before .loop .inv) (c .before .loop-test .taken) (c .ramp .ensures)
+loop-again c = filling-more _ (c .before .before .loop .inv) (omega arith) (c .ramp .ensures)
 
 same-length : tie.Need-same-length Inv-loop μ-loop
 same-length c = c .before .loop .inv .size

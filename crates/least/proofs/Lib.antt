@@ -1,0 +1,7 @@
+-- `LeastLaws`: the least input over any lookup that never falls.
+pub mod LeastLaws
+pub mod Bracket
+pub mod Tables
+pub mod Promises
+pub mod Demand
+mod Worked

@@ -1,0 +1,5 @@
+-- `Least`: the definition. `Promises`: what the calls promise of it. `Demand`: demand 3, whole. `Inside`: what inner functions ask.
+pub mod Least
+pub mod Promises
+pub mod Inside
+pub mod Demand
