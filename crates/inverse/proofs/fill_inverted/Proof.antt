@@ -7,7 +7,7 @@ use lib.ListN.{length}
 use lib.Ieee.{binary64}
 use denote.Ref.{now}
 use Rattle.table.proofs.Sizes.{within-low, within-high}
-use Rattle.table.proofs.Fill.{Filling, filling-start, filling-length, filling-more, filling-done}
+use Rattle.table.proofs.Fill.{Filling, filling-start, filling-more, filling-done}
 use Rattle.ieee.proofs.Range.{in-float}
 use Rattle.inverse.specs.Inverse.{inverted}
 use Rattle.inverse.specs.Invert.{invertedAt}
@@ -28,7 +28,7 @@ most : (c : tie.Start Inv-loop μ-loop) → length (now (c .args .out)) ≤ 6553
 most c = within-high 2 65536 _ (c .pre .1)
 
 inside : (c : tie.In-loop Inv-loop μ-loop) → c .before .loop .i < length (now (c .before .before .before .before .before .args .out))
-inside c = omega (arith, filling-length _ (c .before .loop .inv))
+inside c = omega arith
 
 sub-scale : tie.Need-sub-scale Inv-loop μ-loop
 sub-scale c = omega (arith, two (c .before .before))
@@ -82,10 +82,10 @@ loop-again c =
     filling-more _ (l .before .loop .inv) (inside l) (c .inverse .ensures ∙ ap (inverted (now (s .args .table))) e)
 
 same-length : tie.Need-same-length Inv-loop μ-loop
-same-length c = filling-length _ (c .before .loop .inv)
+same-length c = c .before .loop .inv .size
 
 returns : tie.Need-returns Inv-loop μ-loop
-returns c = filling-done _ (c .before .loop .inv) refl (omega (arith, filling-length _ (c .before .loop .inv), c .loop-test .left))
+returns c = filling-done _ (c .before .loop .inv) refl (omega arith)
 
 pub fill-inverted-spec : {M : Type 1} → statement M
 fill-inverted-spec =
