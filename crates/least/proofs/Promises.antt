@@ -19,7 +19,7 @@ use Rattle.table.proofs.Answers.{same-done, same-sought}
 use Rattle.table.proofs.Fill.{getD-tabulated}
 use Rattle.lookup.specs.Lookup.{lookedUp}
 use Rattle.least.specs.Least.{leastOf}
-use Rattle.least.specs.Inside.{Searchable}
+use Rattle.least.specs.Inside.{Passed}
 use Rattle.least.specs.Promises.{lastEntry, leastVerdict, LeastPromise, leastRowAt, leastRowOf, leastRowVerdict, LeastRowPromise}
 
 -- The single call.
@@ -40,10 +40,10 @@ module _ {t : List ℕ} {v : Density} where
   least-answer {r} a = sought-is (leastVerdict t (v .0)) (leastOf (lookedUp t) (v .0)) r (a .number) (a .value)
 
   -- in a table that has passed the tests the last entry decides
-  pub least-found : {r : Sought} → Searchable t → v .0 ≤ lastEntry t → LeastPromise t v r → r ≡ Sought.At (record { 0 = leastOf (lookedUp t) (v .0) })
+  pub least-found : {r : Sought} → Passed t → v .0 ≤ lastEntry t → LeastPromise t v r → r ≡ Sought.At (record { 0 = leastOf (lookedUp t) (v .0) })
   least-found s h a = least-answer a ∙ simp (s .size, s .order, le-leb _ _ h)
 
-  pub least-above : {r : Sought} → Searchable t → lastEntry t < v .0 → LeastPromise t v r → r ≡ Sought.Refused AboveLast
+  pub least-above : {r : Sought} → Passed t → lastEntry t < v .0 → LeastPromise t v r → r ≡ Sought.Refused AboveLast
   least-above s h a = least-answer a ∙ simp (s .size, s .order, lt-leb _ _ h)
 
 -- The row.
