@@ -3,17 +3,17 @@ use mathlib.Core.Path.{_≡_, _∙_, refl, sym, ap}
 use mathlib.Core.Logic.{⊎-elim}
 use mathlib.Core.List.{List, [], _∷_, _++_, append-assoc, append-nil}
 use Prim.Native.Nat.{ℕ, zero, suc, _+_, _*_, _≤_, _<_}
-use native.Mathlib.Nat.{add-zero, le-of-suc-le-suc, not-suc-le-zero}
+use native.Mathlib.Nat.{add-zero, add-assoc, le-of-suc-le-suc, not-suc-le-zero}
 use native.Mathlib.Omega.{arith}
-use lib.ListN.{length, getD, take, drop, length-append, List·getD-eq-default}
-use lib.Seq.{take-add, drop-drop, ext-getD}
+use lib.ListN.{length, getD, take, drop, length-append, length-drop, List·getD-eq-default}
+use lib.Seq.{take-add, drop-drop, ext-getD, length-take-le, getD-take, getD-drop}
 use Rattle.table.specs.Fill.{tabulated}
 use Rattle.table.specs.Order.{SixteenBits}
 use Rattle.table.proofs.Choice.{below?}
 use Rattle.table.proofs.Fill.{length-tabulated, getD-tabulated}
 use Rattle.icc.specs.Bytes.{EightBits, be16, bytes16}
 use Rattle.icc.proofs.Numbers.{length-bytes16, be16-bytes, bytes-be16, below16}
-use Rattle.curv.specs.Tag.{entryAt, bytesOf}
+use Rattle.curv.specs.Tag.{countOf, entryAt, partOf, tagLength, bytesOf}
 
 pub bytes-append : (s t : List ℕ) → bytesOf (s ++ t) ≡ bytesOf s ++ bytesOf t
 unfolding bytesOf
@@ -73,3 +73,16 @@ entries-wide b w n i = ⊎-elim inside outside (below? i n)
     outside h =
         let beyond : length (tabulated (entryAt b) n) ≤ i = omega (arith, length-tabulated (entryAt b) n) in
         rw (List·getD-eq-default (tabulated (entryAt b) n) 0 beyond) (omega arith)
+
+-- The part of a tag that its total leaves room for: two bytes for each entry, which are that entry.
+module _ (b : List ℕ) where
+  pub length-part : tagLength (countOf b) ≤ length b → length (partOf b) ≡ 2 * countOf b
+  length-part h = length-take-le (2 * countOf b) (drop 12 b) (simp length-drop (omega arith))
+
+  in-part : (k : ℕ) → k < 2 * countOf b → getD (partOf b) k 0 ≡ getD b (12 + k) 0
+  in-part k h = getD-take (2 * countOf b) (drop 12 b) k 0 h ∙ getD-drop 12 b k 0
+
+  pub part-entry : (i : ℕ) → i < countOf b → be16 (partOf b) (2 * i) ≡ entryAt b i
+  unfolding be16 entryAt
+  part-entry i h =
+      omega (arith, in-part (2 * i) (omega arith), in-part (2 * i + 1) (omega arith), ap (λ (k : ℕ). getD b k 0) (sym (add-assoc 12 (2 * i) 1)))

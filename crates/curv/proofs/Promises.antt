@@ -6,7 +6,7 @@ use native.Mathlib.Omega.{arith}
 use borrow.Author.Tests.{le-leb, lt-leb, eq-eqb, ne-eqb, leb-true, eqb-true}
 use denote.Ref.{RefT, now}
 use lib.ListN.{length}
-use Rattle.table.specs.Refusals.{numberOf, Verdict, granted, refused, numberIn, ifGranted}
+use Rattle.table.specs.Refusals.{Verdict, granted, refused, numberIn, ifGranted}
 use Rattle.table.specs.Fill.{tabulated}
 use Rattle.table.specs.declared.Done.{Done}
 use Rattle.table.specs.declared.Refusal.{Refusal}
@@ -79,21 +79,14 @@ module _ (b out : List ℕ) where
       let v = and-then-granted (tagVerdict b) _ g in
       (v .0, eqb-true _ _ (rung-granted _ _ _ (v .1) .0), p .after ∙ verdict-gives (entriesOf b) out (sym g))
 
--- The part.
-module _ (tag part : RefT (List ℕ)) (why′ : ℕ) where
-  pub part-refused : (why : Refusal) → tagVerdict (now tag) ≡ refused why → why′ ≡ numberOf why → now part ≡ [] → part .ptr ≡ tag .ptr → PartPromise tag part why′
-  part-refused why e n l p = record {
-    number = n ∙ verdict-number e;
-    bytes = l ∙ verdict-gives (partOf (now tag)) [] e;
-    place = p ∙ verdict-gives (past 12 (tag .ptr)) (tag .ptr) e;
-  }
-
-  pub part-granted : tagVerdict (now tag) ≡ granted → why′ ≡ 0 → now part ≡ partOf (now tag) → part .ptr ≡ past 12 (tag .ptr) → PartPromise tag part why′
-  part-granted e n l p = record {
-    number = n ∙ verdict-number e;
-    bytes = l ∙ verdict-gives (partOf (now tag)) [] e;
-    place = p ∙ verdict-gives (past 12 (tag .ptr)) (tag .ptr) e;
-  }
+-- The part, by the verdict v on the tag.
+pub part-meets : (tag part : RefT (List ℕ)) (why′ : ℕ) (v : Verdict) → tagVerdict (now tag) ≡ v → why′ ≡ numberIn v
+    → now part ≡ ifGranted v (partOf (now tag)) [] → part .ptr ≡ ifGranted v (past 12 (tag .ptr)) (tag .ptr) → PartPromise tag part why′
+part-meets tag part why′ v e n l p = record {
+  number = n ∙ verdict-number e;
+  bytes = l ∙ verdict-gives (partOf (now tag)) [] e;
+  place = p ∙ verdict-gives (past 12 (tag .ptr)) (tag .ptr) e;
+}
 
 pub granted-part : {tag part : RefT (List ℕ)} {why′ : ℕ} → tagVerdict (now tag) ≡ granted → PartPromise tag part why′
     → (why′ ≡ 0) × (now part ≡ partOf (now tag)) × (part .ptr ≡ past 12 (tag .ptr))

@@ -33,8 +33,8 @@ head-read b w r =
     let twelve = r .twelve in
     sym (
     take-add 8 4 b
-    ∙ ap (λ (l : List ℕ). l ++ take 4 (drop 8 b)) (opens 99 117 114 118 b (omega arith) (r .signed) (r .zeros))
-    ∙ ap (λ (l : List ℕ). opening 99 117 114 118 ++ l) (sym (bytes-be32 b w 8 twelve))
+    ∙ ap (λ (l : List ℕ). l ++ take 4 (drop 8 b)) (opens 0x63 0x75 0x72 0x76 b (omega arith) (r .signed) (r .zeros))
+    ∙ ap (λ (l : List ℕ). opening 0x63 0x75 0x72 0x76 ++ l) (sym (bytes-be32 b w 8 twelve))
     )
 
 -- and the whole is what is written for its entries

@@ -19,7 +19,7 @@ use Rattle.curv.proofs.Written.{length-tag, tag-signed, tag-zeros, tag-
 
 -- the first eight bytes of a curv tag, and three whole ones
 abbrev begun : List ℕ → List ℕ
-begun l = 99 ∷ 117 ∷ 114 ∷ 118 ∷ 0 ∷ 0 ∷ 0 ∷ 0 ∷ l
+begun l = 0x63 ∷ 0x75 ∷ 0x72 ∷ 0x76 ∷ 0 ∷ 0 ∷ 0 ∷ 0 ∷ l
 
 abbrev none : List ℕ
 none = begun (0 ∷ 0 ∷ 0 ∷ 0 ∷ [])
@@ -75,15 +75,15 @@ unfolding head bytesOf bytes32
 none-written = record { number = refl; after = refl }
 
 -- Each refusal of a read; the buffer stays as it was lent.
-short : ReadPromise (99 ∷ 117 ∷ 114 ∷ 118 ∷ 0 ∷ 0 ∷ 0 ∷ 0 ∷ 0 ∷ 0 ∷ 0 ∷ []) (7 ∷ []) (Done.Refused TagLength) (7 ∷ [])
+short : ReadPromise (0x63 ∷ 0x75 ∷ 0x72 ∷ 0x76 ∷ 0 ∷ 0 ∷ 0 ∷ 0 ∷ 0 ∷ 0 ∷ 0 ∷ []) (7 ∷ []) (Done.Refused TagLength) (7 ∷ [])
 unfolding tagVerdict
 short = record { number = refl; after = refl }
 
-unsigned : ReadPromise (99 ∷ 117 ∷ 114 ∷ 119 ∷ 0 ∷ 0 ∷ 0 ∷ 1 ∷ 0 ∷ 0 ∷ 0 ∷ 0 ∷ []) [] (Done.Refused WrongSignature) []
+unsigned : ReadPromise (0x63 ∷ 0x75 ∷ 0x72 ∷ 0x77 ∷ 0 ∷ 0 ∷ 0 ∷ 1 ∷ 0 ∷ 0 ∷ 0 ∷ 0 ∷ []) [] (Done.Refused WrongSignature) []
 unfolding tagVerdict stands
 unsigned = record { number = refl; after = refl }
 
-unreserved : ReadPromise (99 ∷ 117 ∷ 114 ∷ 118 ∷ 0 ∷ 0 ∷ 0 ∷ 1 ∷ 0 ∷ 1 ∷ 0 ∷ 1 ∷ []) [] (Done.Refused ReservedNotZero) []
+unreserved : ReadPromise (0x63 ∷ 0x75 ∷ 0x72 ∷ 0x76 ∷ 0 ∷ 0 ∷ 0 ∷ 1 ∷ 0 ∷ 1 ∷ 0 ∷ 1 ∷ []) [] (Done.Refused ReservedNotZero) []
 unfolding tagVerdict stands
 unreserved = record { number = refl; after = refl }
 

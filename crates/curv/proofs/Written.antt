@@ -18,13 +18,13 @@ use Rattle.curv.proofs.Entries.{bytes-append, bytes-one, length-bytes}
 
 pub length-head : (n : ℕ) → length (head n) ≡ 12
 unfolding head
-length-head n = omega (arith, length-append (opening 99 117 114 118) (bytes32 n), length-bytes32 n)
+length-head n = omega (arith, length-append (opening 0x63 0x75 0x72 0x76) (bytes32 n), length-bytes32 n)
 
 -- the first twelve bytes, by two runs of stores
-pub head-stored : (l : List ℕ) (n : ℕ) → 12 ≤ length l → take 12 (sets (sets l 0 (opening 99 117 114 118)) 8 (bytes32 n)) ≡ head n
+pub head-stored : (l : List ℕ) (n : ℕ) → 12 ≤ length l → take 12 (sets (sets l 0 (opening 0x63 0x75 0x72 0x76)) 8 (bytes32 n)) ≡ head n
 unfolding head
 head-stored l n h =
-    let signature = opening 99 117 114 118 in
+    let signature = opening 0x63 0x75 0x72 0x76 in
     let four : 8 + length (bytes32 n) ≡ 12 = omega (arith, length-bytes32 n) in
     take-sets (sets l 0 signature) 8 (bytes32 n) 12 four (omega (arith, length-sets l 0 signature))
     ∙ ap (λ (k : List ℕ). k ++ bytes32 n) (take-sets l 0 signature 8 refl (omega arith))
@@ -46,15 +46,15 @@ module _ (t : List ℕ) where
 
   pub tag-signed : isCurv (tagOf t) ≡ true
   unfolding head
-  tag-signed = opening-signed 99 117 114 118 (bytes32 (length t) ++ bytesOf t)
+  tag-signed = opening-signed 0x63 0x75 0x72 0x76 (bytes32 (length t) ++ bytesOf t)
 
   pub tag-zeros : reservedZero (tagOf t) ≡ true
   unfolding head
-  tag-zeros = opening-zeros 99 117 114 118 (bytes32 (length t) ++ bytesOf t)
+  tag-zeros = opening-zeros 0x63 0x75 0x72 0x76 (bytes32 (length t) ++ bytesOf t)
 
   pub tag-count : countOf (tagOf t) ≡ length t
   unfolding head
-  tag-count = be32-bytes (opening 99 117 114 118) 8 (length t) (bytesOf t) refl
+  tag-count = be32-bytes (opening 0x63 0x75 0x72 0x76) 8 (length t) (bytesOf t) refl
 
   pub tag-readable : length t ≤ 65536 → Readable (tagOf t)
   tag-readable h =

@@ -48,8 +48,8 @@ pub record ReadPromise (b out : List ℕ) (r : Done) (out′ : List ℕ) : Type 
 abbrev pub past : ℕ → ℕ × ℕ → ℕ × ℕ
 past k p = (p .0, k + p .1)
 
--- The bytes of a tag's entries, as part of the tag: refused as the tag is. The part lies twelve bytes into the tag, and no copy of it elsewhere does.
--- Refused, it is empty, and lies at the tag's start. The number is in the place beside it.
+-- The bytes of a tag's entries, as that part of the tag: refused as the tag is. The part lies in the tag itself, twelve bytes after its start, and is no copy;
+-- refused, it is empty, and lies at the tag's start. The number stands in the place beside it.
 pub record PartPromise (tag part : RefT (List ℕ)) (why′ : ℕ) : Type 0 where
   pub number : why′ ≡ numberIn (tagVerdict (now tag))
   pub bytes : now part ≡ ifGranted (tagVerdict (now tag)) (partOf (now tag)) []

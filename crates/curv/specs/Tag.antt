@@ -1,4 +1,4 @@
--- The curv tag of ICC.1, byte by byte: 63 75 72 76 (hexadecimal), four zero bytes, a 32-bit count n, n 16-bit entries. Assumes nothing.
+-- The curv tag of ICC.1, byte by byte: 63 75 72 76, four zero bytes, a 32-bit count n, n 16-bit entries. Assumes nothing.
 use Prim.Native.Nat.{ℕ, _+_, _*_}
 use mathlib.Core.Bool.{Bool}
 use mathlib.Core.List.{List, [], _∷_, _++_}
@@ -10,7 +10,7 @@ use Rattle.icc.specs.Opening.{signedBy, opening}
 
 -- the signature
 abbrev pub isCurv : List ℕ → Bool
-isCurv b = signedBy 99 117 114 118 b
+isCurv b = signedBy 0x63 0x75 0x72 0x76 b
 
 -- What a tag holds: its count, at byte 8; entry i, the two bytes at 12 + 2i; and its entries, as many as the count says.
 abbrev pub countOf : List ℕ → ℕ
@@ -36,7 +36,7 @@ total n len = eqb len (tagLength n)
 
 -- What is written for a table: the first twelve bytes, and each entry's two.
 unfoldable pub head : ℕ → List ℕ
-head n = opening 99 117 114 118 ++ bytes32 n
+head n = opening 0x63 0x75 0x72 0x76 ++ bytes32 n
 
 unfoldable pub bytesOf : List ℕ → List ℕ
 bytesOf [] = []

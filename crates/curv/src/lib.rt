@@ -13,9 +13,9 @@ ghost use mathlib.Core.Path.{_≡_};
 ghost use mathlib.Core.List.{_++_};
 ghost use Prim.Native.Nat.{_≤_};
 ghost use lib.ListN.{length, take};
+ghost use Rattle.table.specs.Fill.{tabulated};
 ghost use Rattle.curv.specs.Tag.{entryAt, total, bytesOf, head, tagLength};
 ghost use Rattle.curv.specs.Promises.{CountPromise, ReadPromise, PartPromise, WritePromise};
-ghost use Rattle.table.specs.Fill.{tabulated};
 
 // The answer of a call that counts a tag's entries.
 pub enum Counted {

@@ -1,1 +1,2 @@
+-- The words of the laws.
 pub mod Range

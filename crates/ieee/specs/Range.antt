@@ -4,7 +4,7 @@ use mathlib.Core.Bool.{Bool, false, _&&_}
 use lib.IntN.{pos}
 use lib.Ieee.{Float, fin, le}
 
--- the number k, for comparisons: from 2 on a float is written with an odd m, so this is no bit pattern's value
+-- the number k, for comparisons: they go by the number, and not by how a format writes it
 abbrev pub whole : ℕ → Float
 whole k = fin false k (pos 0)
 

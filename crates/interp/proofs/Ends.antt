@@ -1,9 +1,9 @@
 -- At the two ends of a table of floats no rounding changes a finite entry, but for the sign of a zero. Assumes nothing.
 use mathlib.Core.Path.{_≡_, refl, sym, ap, ap₂, _∙_, subst}
-use mathlib.Core.Bool.{Bool, true, false, not, _&&_, _||_, true≢false, false≢true}
+use mathlib.Core.Bool.{Bool, true, false, not, _&&_, true≢false}
 use mathlib.Core.List.{List}
 use Prim.Native.Nat.{ℕ, zero, suc, _+_, _-_, _*_, _≤_, _<_, zero-le}
-use native.Mathlib.Nat.{le-antisymm, le-of-eq, one-mul, mul-one, zero-mul, mul-pos, zero-lt-suc}
+use native.Mathlib.Nat.{le-antisymm, le-of-eq, one-mul, mul-one, zero-mul, mul-pos}
 use native.Mathlib.Omega.{arith}
 use borrow.Author.Tests.{lt-ltb, le-ltb, ltb-false}
 use lib.ListN.{length, getD}
@@ -12,7 +12,7 @@ use lib.Dec.{T, ltb, lit<}
 use lib.Pow.{pow-pos}
 use lib.Ieee.{Float, nan, inf, fin, binary32, up, down, unlike, fits, isNan, round, add, sub, mul, neg, lt, le, eq, ofInt}
 use lib.Ieee.Bits.{is-true}
-use lib.Ieee.Fits.{up-pos, down-pos}
+use lib.Ieee.Fits.{down-pos}
 use lib.Ieee.Exact.{HasValue}
 use lib.Ieee.Scale.{finite}
 use Rattle.table.specs.Choice.{pick}

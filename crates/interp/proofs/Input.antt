@@ -1,7 +1,6 @@
 -- An input read as a number from 0 to 1, and an input that is refused for not being one. Assumes nothing.
 use mathlib.Core.Path.{_≡_, refl, sym, ap, ap₂, _∙_, subst}
-use mathlib.Core.Bool.{Bool, true, false, not, _||_, cond, true≢false}
-use Prim.Native.Nat.{ℕ}
+use mathlib.Core.Bool.{Bool, true, false, _||_, cond}
 use lib.Dec.{T}
 use borrow.Author.Tests.{not-false}
 use lib.Ieee.{Float, binary32, binary64, lt, le, ne, isNan, ofBits}

@@ -2,7 +2,6 @@
 use mathlib.Core.Path.{_≡_, sym, subst}
 use mathlib.Core.Bool.{true}
 use Prim.Native.Nat.{ℕ, _-_, _≤_, _<_}
-use native.Mathlib.Nat.{lt-of-le-of-lt}
 use native.Mathlib.Omega.{arith}
 use lib.IntN.{pos}
 use lib.Dec.{T}
@@ -11,7 +10,7 @@ use Rattle.table.specs.Sizes.{sized}
 use Rattle.table.proofs.Sizes.{within-low, within-high}
 use Rattle.ieee.specs.Range.{upto}
 use Rattle.ieee.proofs.Range.{in-float, upto-more, scaled-upto}
-use Rattle.rounding.specs.Cut.{floor, ceil, FloorPromise, CeilPromise}
+use Rattle.rounding.specs.Cut.{FloorPromise, CeilPromise}
 use Rattle.rounding.proofs.Cut.{floor-upto, ceil-upto}
 
 module _ (n : ℕ) (S : sized n ≡ true) where

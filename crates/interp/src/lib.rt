@@ -12,7 +12,7 @@ use table::sized;
 use table::spanned;
 ghost use mathlib.Core.Path.{_≡_};
 ghost use mathlib.Core.Bool.{true, false};
-ghost use Prim.Native.Nat.{_≤_, _<_};
+ghost use Prim.Native.Nat.{_<_};
 ghost use lib.ListN.{length};
 ghost use Rattle.table.specs.Sizes.{sized, spanned};
 ghost use Rattle.interp.specs.Interp.{unit, floatLookedUp, outsideUnit, weighedUp, passedThrough};

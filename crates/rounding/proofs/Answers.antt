@@ -7,23 +7,23 @@ use Rattle.rounding.specs.Cut.{FloorPromise, CeilPromise}
 use Rattle.rounding.specs.Size.{MinPromise, AbsPromise}
 use Rattle.rounding.specs.Nearest.{NarrowPromise, U8Fixed8Promise, S15Fixed16Promise}
 
-pub narrow-one : (x r s : Float) → NarrowPromise x r → NarrowPromise x s → r ≡ s
-narrow-one x r s p q = p .value ∙ sym (q .value)
+pub narrow-one : {x r s : Float} → NarrowPromise x r → NarrowPromise x s → r ≡ s
+narrow-one a b = a .value ∙ sym (b .value)
 
-pub u8-one : (x : ℕ) (r s : Float) → U8Fixed8Promise x r → U8Fixed8Promise x s → r ≡ s
-u8-one x r s p q = p .value ∙ sym (q .value)
+pub u8-one : {x : ℕ} {r s : Float} → U8Fixed8Promise x r → U8Fixed8Promise x s → r ≡ s
+u8-one a b = a .value ∙ sym (b .value)
 
-pub s15-one : (x : ℤ) (r s : Float) → S15Fixed16Promise x r → S15Fixed16Promise x s → r ≡ s
-s15-one x r s p q = p .value ∙ sym (q .value)
+pub s15-one : {x : ℤ} {r s : Float} → S15Fixed16Promise x r → S15Fixed16Promise x s → r ≡ s
+s15-one a b = a .value ∙ sym (b .value)
 
-pub min-one : (x bound r s : Float) → MinPromise x bound r → MinPromise x bound s → r ≡ s
-min-one x bound r s p q = p .value ∙ sym (q .value)
+pub min-one : {x bound r s : Float} → MinPromise x bound r → MinPromise x bound s → r ≡ s
+min-one a b = a .value ∙ sym (b .value)
 
-pub abs-one : (x r s : Float) → AbsPromise x r → AbsPromise x s → r ≡ s
-abs-one x r s p q = p .value ∙ sym (q .value)
+pub abs-one : {x r s : Float} → AbsPromise x r → AbsPromise x s → r ≡ s
+abs-one a b = a .value ∙ sym (b .value)
 
-pub floor-one : (x : Float) (r s : ℕ) → FloorPromise x r → FloorPromise x s → r ≡ s
-floor-one x r s p q = p .value ∙ sym (q .value)
+pub floor-one : {x : Float} {r s : ℕ} → FloorPromise x r → FloorPromise x s → r ≡ s
+floor-one a b = a .value ∙ sym (b .value)
 
-pub ceil-one : (x : Float) (r s : ℕ) → CeilPromise x r → CeilPromise x s → r ≡ s
-ceil-one x r s p q = p .value ∙ sym (q .value)
+pub ceil-one : {x : Float} {r s : ℕ} → CeilPromise x r → CeilPromise x s → r ≡ s
+ceil-one a b = a .value ∙ sym (b .value)

@@ -1,3 +1,4 @@
+-- `Cut`, `Size`, `Narrow`, `Fixed`: what the functions' proofs cite, and the laws that callers use. `Answers`: each promise names one answer.
 pub mod Cut
 pub mod Size
 pub mod Narrow

@@ -8,7 +8,7 @@ use Rattle.curv.proofs.count_entries.Statement.{statement}
 use Rattle.curv.proofs.count_entries.Tie as tie
 
 returns : tie.Need-returns
-returns c = count-refused _ _ (short _ (c .if1 .taken))
+returns c = count-refused _ _ (short _ (omega arith))
 
 signed-requires : tie.Need-signed-requires
 signed-requires c κs = search needs

@@ -4,8 +4,9 @@ use Prim.Native.Nat.{ℕ, _-_, _*_}
 use native.Mathlib.Nat.{zero-add}
 use native.Mathlib.Omega.{arith}
 use lib.ListN.{take, drop}
+use Rattle.table.specs.Refusals.{granted, refused}
 use Rattle.curv.specs.Tag.{countOf}
-use Rattle.curv.proofs.Promises.{refused-count, granted-count, part-refused, part-granted}
+use Rattle.curv.proofs.Promises.{refused-count, granted-count, part-meets}
 use borrow.Author.Needs.{needs}
 use Rattle.curv.proofs.entry_bytes.Statement.{statement}
 use Rattle.curv.proofs.entry_bytes.Tie as tie
@@ -34,7 +35,7 @@ returns c =
     let called = told .before .before in
     let tag = called .before .before .args .tag in
     let e = refused-count (tag .now) (called .count-entries .result) (called .count-entries .ensures) (told .refusal .given .0 .0) (cc) in
-    part-refused tag _ _ _ e (c .before .number .ensures) refl (ap (λ (o : ℕ). (tag .ptr .0, o)) (zero-add (tag .ptr .1)))
+    part-meets tag _ _ (refused (told .refusal .given .0 .0)) e (c .before .number .ensures) refl (ap (λ (o : ℕ). (tag .ptr .0, o)) (zero-add (tag .ptr .1)))
 
 enum-known-n : tie.Need-enum-known-n
 enum-known-n c = search needs
@@ -66,7 +67,7 @@ returns-2 c =
     let tag = called .before .before .args .tag in
     let g = granted-count (tag .now) (called .count-entries .result) (called .count-entries .ensures) (told .n .given .0 .0) (cc) in
     let part : c .before .tag-length .result - 12 ≡ 2 * countOf (tag .now) = omega arith in
-    part-granted tag _ _ (g .verdict) refl (ap (λ (k : ℕ). take k (drop 12 (tag .now))) part) refl
+    part-meets tag _ _ granted (g .verdict) refl (ap (λ (k : ℕ). take k (drop 12 (tag .now))) part) refl
 
 pub entry-bytes-spec : {M : Type 1} → statement M
 entry-bytes-spec =

@@ -1,5 +1,4 @@
 -- `read_curv` meets its contract: refused as the count is, then for the buffer's length, and filled otherwise. Assumes nothing.
-use mathlib.Core.Path.{_∙_}
 use native.Mathlib.Omega.{arith}
 use Rattle.curv.proofs.Promises.{refused-count, granted-count, read-refused, read-misfit, read-granted}
 use borrow.Author.Needs.{needs}
@@ -21,7 +20,7 @@ returns c =
     let start = called .before .before .before in
     let n = c .before .before .n .given .0 .0 in
     let g = granted-count (start .args .tag .now) (called .count-entries .result) (called .count-entries .ensures) n (cc) in
-    read-misfit _ _ (g .verdict) (λ e. c .if1 .taken (e ∙ g .count))
+    read-misfit _ _ (g .verdict) (λ e. omega arith)
 
 fill-requires : tie.Need-fill-requires
 fill-requires c κs =

@@ -10,7 +10,7 @@ use Rattle.curv.proofs.write_curv.Statement.{statement}
 use Rattle.curv.proofs.write_curv.Tie as tie
 
 returns : tie.Need-returns
-returns c = write-many _ _ (c .if1 .taken)
+returns c = write-many _ _ (omega arith)
 
 tag-length-requires : tie.Need-tag-length-requires
 tag-length-requires c κs = search needs

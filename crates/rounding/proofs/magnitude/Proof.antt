@@ -1,4 +1,4 @@
--- Each arm is a range of the exponent, and a law of `proofs/Narrow.antt`.
+-- `magnitude` meets its contract: each arm is a range of the exponent, and a law of `proofs/Narrow.antt`. Assumes nothing.
 use borrow.Author.Needs.{needs}
 use native.Mathlib.Omega.{arith}
 use lib.Dec.{lit≤}

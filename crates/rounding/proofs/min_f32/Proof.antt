@@ -1,4 +1,4 @@
--- Each arm is one case of `least`.
+-- `min_f32` meets its promise: each arm is one case of `least`. Assumes nothing.
 use Rattle.rounding.proofs.Size.{least-nan, least-over, least-itself}
 use Rattle.rounding.proofs.min_f32.Statement.{statement}
 use Rattle.rounding.proofs.min_f32.Tie as tie

@@ -1,4 +1,4 @@
--- The answer's pattern is the sign's bit and what `magnitude` makes of the two fields, which are x's own.
+-- `nearest_f64_to_f32` meets its promise: the pattern is the sign's bit and what `magnitude` makes of the two fields, which are x's own. Assumes nothing.
 use borrow.Author.Needs.{needs}
 use borrow.Author.Tests.{le-leb, lt-leb}
 use mathlib.Core.Path.{sym, subst}

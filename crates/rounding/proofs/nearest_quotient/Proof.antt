@@ -1,4 +1,4 @@
--- Each arm is one case of `closest`, by twice the remainder.
+-- `nearest_quotient` meets its contract: each arm is one case of `closest`, by twice the remainder. Assumes nothing.
 use borrow.Author.Needs.{needs}
 use mathlib.Core.Path.{sym}
 use native.Mathlib.Nat.{mod-lt, div-le-self, le-antisymm}

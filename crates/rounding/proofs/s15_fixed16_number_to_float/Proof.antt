@@ -1,4 +1,4 @@
--- x / 65536 is exact in f64, so the f32 is rounded once.
+-- `s15_fixed16_number_to_float` meets its promise: x / 65536 is exact in f64, so the f32 is rounded once. Assumes nothing.
 use borrow.Author.Needs.{needs}
 use mathlib.Core.Path.{subst}
 use lib.IntN.{ℤ}

@@ -1,4 +1,4 @@
--- x / 256 is exact in f64, and an f32 holds it.
+-- `u8_fixed_8number_to_float` meets its promise: x / 256 is exact in f64, and an f32 holds it. Assumes nothing.
 use borrow.Author.Needs.{needs}
 use Rattle.rounding.proofs.Fixed.{u8-gives}
 use Rattle.rounding.proofs.u8_fixed_8number_to_float.Statement.{statement}

@@ -1,4 +1,4 @@
--- Whether the floor lies below the float tells ceil from floor.
+-- `ceil_f32` meets its promise: whether the floor lies below the float tells ceil from floor. Assumes nothing.
 use borrow.Author.Needs.{needs}
 use mathlib.Core.Bool.{true, false}
 use lib.Ieee.{binary32}

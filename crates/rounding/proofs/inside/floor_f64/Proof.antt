@@ -1,4 +1,4 @@
--- The floor is what cutting the float to an integer gives.
+-- `floor_f64` meets its promise: the floor is what cutting the float to an integer gives. Assumes nothing.
 use Rattle.rounding.proofs.Cut.{cut-asks, floor-gives}
 use Rattle.rounding.proofs.inside.floor_f64.Statement.{statement}
 use Rattle.rounding.proofs.inside.floor_f64.Tie as tie

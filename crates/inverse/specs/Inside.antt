@@ -1,0 +1,18 @@
+-- What the inner functions of this crate ask of whoever calls them. Assumes nothing.
+use mathlib.Core.Path.{_≡_}
+use mathlib.Core.List.{List}
+use Prim.Native.Nat.{ℕ, _≤_, _<_}
+use Rattle.lookup.specs.Lookup.{lookedUp}
+
+-- What keeps every x that the search probes from 1 to 65535, so that x-1 is a position. l can start at 0; then r starts at 2 or more, and
+-- positions 0 and 1 do not look up above the value, so that r stays at 2 or more until l has risen.
+pub record Ready (t : List ℕ) (v l r : ℕ) : Type 0 where
+  pub high : r ≤ 65536
+  pub apart : l ≡ 0 → 2 ≤ r
+  pub under : l ≡ 0 → (p : ℕ) → p < 2 → lookedUp t p ≤ v
+
+-- two cells of a table of n entries
+pub record CellsFit (n c0 c1 : ℕ) : Type 0 where
+  pub few : n ≤ 65536
+  pub inside0 : c0 < n
+  pub inside1 : c1 < n
