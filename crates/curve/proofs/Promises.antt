@@ -2,7 +2,7 @@
 -- Whatever is lent or asked, an empty table, one of 65,537 entries, a falling one, any index, any value: there is one numbered answer (`start-answer`,
 -- `accept-answer`, `nudge-answer`), and a refused call leaves the table as it was (`start-refused`, `accept-same`, `nudge-refused`).
 -- Assumes nothing.
-use mathlib.Core.Path.{_≡_, _∙_, refl, sym, ap}
+use mathlib.Core.Path.{_≡_, _∙_, sym, ap}
 use mathlib.Core.Bool.{true}
 use mathlib.Core.List.{List}
 use Prim.Native.Nat.{ℕ, _<_}
@@ -12,35 +12,15 @@ use lib.Seq.{getD-set-same, getD-set-other}
 use lib.Dec.{ltb}
 use Rattle.table.specs.Sizes.{sized, spanned}
 use Rattle.table.specs.Order.{nondecreasing, suits}
-use Rattle.table.specs.Refusals.{Verdict, granted, refused, numberIn}
-use Rattle.table.specs.Answers.{numberOfDone}
+use Rattle.table.specs.Refusals.{granted}
 use Rattle.table.specs.declared.Density.{Density}
 use Rattle.table.specs.declared.Done.{Done}
 use Rattle.table.specs.declared.Refusal.{Refusal}
 use Rattle.table.specs.declared.Refusal.the-variants.{TableLength, NotNondecreasing, IndexBeyond, OutsideNeighbours}
-use Rattle.table.proofs.Refusals.{same-verdict, rung-granted}
-use Rattle.table.proofs.Answers.{same-done}
+use Rattle.table.proofs.Refusals.{rung-granted}
+use Rattle.table.proofs.Answers.{same-done, doneBy, done-is, done-granted, done-refused}
 use Rattle.curve.specs.Ramp.{rampOf}
 use Rattle.curve.specs.Promises.{Sitting, sittingOn, startVerdict, StartPromise, acceptVerdict, AcceptPromise, nudgeVerdict, NudgePromise}
-
--- the answer that a verdict comes to
-abbrev pub doneBy : Verdict → Done
-doneBy granted = Done.Yes
-doneBy (refused why) = Done.Refused why
-
-pub done-number : (w : Verdict) → numberOfDone (doneBy w) ≡ numberIn w
-done-number granted = refl
-done-number (refused why) = refl
-
-done-is : {r : Done} (w : Verdict) → numberOfDone r ≡ numberIn w → r ≡ doneBy w
-done-is {r} w e = same-done r (doneBy w) (e ∙ sym (done-number w))
-
--- what an answer tells of the verdict
-yes-granted : (w : Verdict) → numberOfDone Done.Yes ≡ numberIn w → w ≡ granted
-yes-granted w e = same-verdict w granted (sym e)
-
-no-refused : (w : Verdict) (why : Refusal) → numberOfDone (Done.Refused why) ≡ numberIn w → w ≡ refused why
-no-refused w why e = same-verdict w (refused why) (sym e)
 
 -- Start.
 module _ {n : ℕ} {s : Sitting} where
@@ -52,11 +32,11 @@ module _ {n : ℕ} {s : Sitting} where
 
   pub start-granted : {s′ : Sitting} → StartPromise n s Done.Yes s′ → (spanned n ≡ true) × (s′ .table ≡ rampOf n)
   start-granted a =
-      let w = yes-granted (startVerdict n) (a .number) in
+      let w = done-granted (startVerdict n) (a .number) in
       (rung-granted (spanned n) TableLength granted w .0, a .table ∙ simp w)
 
   pub start-refused : {why : Refusal} {s′ : Sitting} → StartPromise n s (Done.Refused why) s′ → s′ ≡ s
-  start-refused {why} a = ap sittingOn (a .table ∙ simp (no-refused (startVerdict n) why (a .number)))
+  start-refused {why} a = ap sittingOn (a .table ∙ simp (done-refused (startVerdict n) why (a .number)))
 
 -- Accept.
 module _ {s : Sitting} where
@@ -71,7 +51,7 @@ module _ {s : Sitting} where
 
   pub accept-granted : {s′ : Sitting} → AcceptPromise s Done.Yes s′ → (sized (length (s .table)) ≡ true) × (nondecreasing (s .table) ≡ true)
   accept-granted a =
-      let w = rung-granted (sized (length (s .table))) TableLength _ (yes-granted (acceptVerdict s) (a .number)) in
+      let w = rung-granted (sized (length (s .table))) TableLength _ (done-granted (acceptVerdict s) (a .number)) in
       (w .0, rung-granted (nondecreasing (s .table)) NotNondecreasing granted (w .1) .0)
 
 -- Nudge.
@@ -91,7 +71,7 @@ module _ {s : Sitting} {i : ℕ} {v : Density} where
 
   pub nudge-granted : {s′ : Sitting} → NudgePromise s i v Done.Yes s′ → Nudgeable (s .table) i (v .0) × (s′ .table ≡ set (s .table) i (v .0))
   nudge-granted a =
-      let w = yes-granted (nudgeVerdict s i (v .0)) (a .number) in
+      let w = done-granted (nudgeVerdict s i (v .0)) (a .number) in
       let one = rung-granted (sized (length (s .table))) TableLength _ w in
       let three = rung-granted (ltb i (length (s .table))) IndexBeyond _ (one .1) in
       let two = rung-granted (nondecreasing (s .table)) NotNondecreasing _ (three .1) in
@@ -99,7 +79,7 @@ module _ {s : Sitting} {i : ℕ} {v : Density} where
       (record { size = one .0; index = ltb-true i (length (s .table)) (three .0); order = two .0; fitting = four .0 }, a .table ∙ simp w)
 
   pub nudge-refused : {why : Refusal} {s′ : Sitting} → NudgePromise s i v (Done.Refused why) s′ → s′ ≡ s
-  nudge-refused {why} a = ap sittingOn (a .table ∙ simp (no-refused (nudgeVerdict s i (v .0)) why (a .number)))
+  nudge-refused {why} a = ap sittingOn (a .table ∙ simp (done-refused (nudgeVerdict s i (v .0)) why (a .number)))
 
   -- a granted nudge sets the entry, and whatever the answer no other changes
   pub nudge-sets : {s′ : Sitting} → NudgePromise s i v Done.Yes s′ → getD (s′ .table) i 0 ≡ v .0

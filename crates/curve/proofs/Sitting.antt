@@ -15,6 +15,7 @@ use Rattle.table.specs.declared.Density.{Density}
 use Rattle.table.specs.declared.Done.{Done}
 use Rattle.table.proofs.Choice.{never, below?}
 use Rattle.table.proofs.Sizes.{within-low, within-high, is-within}
+use Rattle.table.proofs.Answers.{doneBy, done-number}
 use Rattle.table.proofs.Order.{test-fact, fact-test, set-test, set-keeps-bits}
 use Rattle.table.proofs.Fill.{length-tabulated, getD-tabulated}
 use Rattle.curve.specs.Ramp.{ramp, rampOf}
@@ -22,7 +23,7 @@ use Rattle.curve.specs.Promises.{Sitting, sittingOn, nudgeVerdict, Nudge
 use Rattle.curve.specs.Calls.{Call, start, accept, nudge, Step, Turn, Run, Throughout, opens, isNudge, AllNudges, WholeSitting}
 use Rattle.curve.specs.Demand.{InOrder, SittingKeepsOrder}
 use Rattle.curve.proofs.RampLaws.{ramp-rises, ramp-fits}
-use Rattle.curve.proofs.Promises.{doneBy, done-number, start-granted, start-refused, accept-same, accept-granted, nudge-granted, nudge-refused, nudge-length}
+use Rattle.curve.proofs.Promises.{start-granted, start-refused, accept-same, accept-granted, nudge-granted, nudge-refused, nudge-length}
 
 -- What always holds: the table may be worked on, is nondecreasing, and has 16-bit entries.
 pub record Held (s : Sitting) : Type 0 where

@@ -12,14 +12,14 @@ use Rattle.table.proofs.Choice.{below?}
 use Rattle.lookup.specs.Lookup.{lookedUp}
 use Rattle.curve.proofs.Sitting.{held-size, held-test, held-in-order, sitting-throughout}
 use Rattle.least.specs.Least.{leastOf}
-use Rattle.least.specs.Inside.{Searchable}
+use Rattle.least.specs.Inside.{Passed}
 use Rattle.least.specs.Promises.{lastEntry, LeastPromise}
 use Rattle.least.specs.Demand.{LeastObeys, CurveObeys, Demand3}
 use Rattle.least.proofs.LeastLaws.{least-exact}
 use Rattle.least.proofs.Tables.{table-obeys, table-rises, table-inside}
 use Rattle.least.proofs.Promises.{least-found, least-above}
 
-module _ {t : List ℕ} (s : Searchable t) where
+module _ {t : List ℕ} (s : Passed t) where
   never-above : (v : Density) (r : Sought) → LeastPromise t v r → r ≡ Sought.Refused AboveLast → lastEntry t < v .0
   never-above v r a e = ⊎-elim (λ l. l) reached (below? (lastEntry t) (v .0))
     where
@@ -46,5 +46,5 @@ pub demand-3 : Demand3
 demand-3 lent opening nudges w =
     sitting-throughout w (CurveObeys (opening .after))
     (λ s h e.
-    let ok : Searchable (s .table) = record { size = held-size h; order = held-test h } in
+    let ok : Passed (s .table) = record { size = held-size h; order = held-test h } in
     record { in-order = held-in-order h e; lookup = table-obeys ok; least = least-obeys ok })

@@ -2,6 +2,7 @@
 pub mod LeastLaws
 pub mod Bracket
 pub mod Tables
+pub mod Cell
 pub mod Promises
 pub mod Demand
 mod Worked

@@ -1,30 +1,41 @@
 -- What the lookup's laws tell the search of a table that has passed the tests: its lookup never falls, and ends at the last entry. Assumes nothing.
 use mathlib.Core.Path.{_≡_, ap}
 use mathlib.Core.List.{List}
-use Prim.Native.Nat.{ℕ, _+_, _-_, _≤_, _<_}
+use Prim.Native.Nat.{ℕ, _-_, _≤_, _<_, zero-le}
 use native.Mathlib.Omega.{arith}
 use lib.ListN.{length, getD}
+use Rattle.table.proofs.Sizes.{within-high}
 use Rattle.table.proofs.Order.{test-fact}
 use Rattle.lookup.specs.Lookup.{lookedUp}
 use Rattle.lookup.specs.Demand.{LookupObeys}
 use Rattle.lookup.proofs.LookupLaws.{lookup-obeys}
 use Rattle.least.specs.Least.{leastOf, NeverFalls}
-use Rattle.least.specs.Inside.{Searchable}
+use Rattle.least.specs.Inside.{Passed, Searchable}
 use Rattle.least.specs.Promises.{lastEntry}
-use Rattle.least.proofs.LeastLaws.{least-inside, least-none}
+use Rattle.least.proofs.LeastLaws.{least-at, least-inside, least-none}
 
--- the entry at the last index
-pub last-at : (t : List ℕ) (top : ℕ) → length t ≡ top + 1 → getD t top 0 ≡ lastEntry t
-last-at t top e =
-    let i : top ≡ length t - 1 = omega arith in
-    ap (λ (n : ℕ). getD t n 0) i
+-- by its last index: the last entry, how large the index is, and the order of the entries
+module _ {t : List ℕ} {top : ℕ} (s : Searchable t top) where
+  pub searchable-last : getD t top 0 ≡ lastEntry t
+  searchable-last =
+      let i : top ≡ length t - 1 = omega arith in
+      ap (λ (n : ℕ). getD t n 0) i
 
-module _ {t : List ℕ} (s : Searchable t) where
+  pub searchable-few : top ≤ 65535
+  searchable-few = omega (arith, within-high 1 65536 (length t) (s .passed .size))
+
+  pub searchable-rises : (i j : ℕ) → i ≤ j → j ≤ top → getD t i 0 ≤ getD t j 0
+  searchable-rises i j ij h = test-fact t (s .passed .order) i j ij (omega arith)
+
+module _ {t : List ℕ} (s : Passed t) where
   pub table-obeys : LookupObeys t
   table-obeys = lookup-obeys t (s .size) (test-fact t (s .order))
 
   pub table-rises : NeverFalls (lookedUp t)
   table-rises = table-obeys .never-falls
+
+  pub table-begins : lookedUp t 0 ≡ getD t 0 0
+  table-begins = table-obeys .first
 
   pub table-ends : lookedUp t 65535 ≡ lastEntry t
   table-ends = table-obeys .last
@@ -35,3 +46,8 @@ module _ {t : List ℕ} (s : Searchable t) where
 
   pub table-none : (v : ℕ) → lastEntry t < v → leastOf (lookedUp t) v ≡ 65536
   table-none v h = least-none (lookedUp t) v table-rises (omega (arith, table-ends))
+
+  -- and position 0 is that of a value not above the first
+  pub table-first : (v : ℕ) → v ≤ getD t 0 0 → leastOf (lookedUp t) v ≡ 0
+  table-first v h =
+      least-at (lookedUp t) v table-rises 0 zero-le (omega (arith, table-begins)) (λ q e. absurd (omega arith))

@@ -17,7 +17,7 @@ use Rattle.table.proofs.Choice.{below?}
 use Rattle.lookup.specs.Lookup.{steps, entriesOf, lookedUp}
 use Rattle.lookup.proofs.LookupLaws.{lookup-reaches}
 use Rattle.least.specs.Least.{leastOf}
-use Rattle.least.specs.Inside.{Searchable}
+use Rattle.least.specs.Inside.{Passed}
 use Rattle.least.specs.Promises.{LeastPromise, LeastRowPromise}
 use Rattle.least.proofs.LeastLaws.{least-at}
 use Rattle.least.proofs.Tables.{table-rises}
@@ -39,7 +39,7 @@ module _ (t : List ℕ) (p v c k : ℕ) (e : steps (length t) p ≡ c * 65535 + 
       (below? (lookedUp t p) v)
 
 -- where the lookup is below v at q and at least v at the next position, that one is the least input
-stands : {t : List ℕ} → Searchable t → (v q : ℕ) → suc q ≤ 65535 → lookedUp t q < v → v ≤ lookedUp t (suc q) → leastOf (lookedUp t) v ≡ suc q
+stands : {t : List ℕ} → Passed t → (v q : ℕ) → suc q ≤ 65535 → lookedUp t q < v → v ≤ lookedUp t (suc q) → leastOf (lookedUp t) v ≡ suc q
 stands {t} s v q h l r =
     least-at (lookedUp t) v (table-rises s) (suc q) h r
     (λ p e. let same : p ≡ q = omega arith in omega (arith, ap (lookedUp t) same))
@@ -50,11 +50,11 @@ bent = 0 ∷ 100 ∷ 65535 ∷ []
 short : List ℕ
 short = 10 ∷ 20 ∷ []
 
-bent-ok : Searchable bent
+bent-ok : Passed bent
 unfolding bent within
 bent-ok = record { size = refl; order = refl }
 
-short-ok : Searchable short
+short-ok : Passed short
 unfolding short within
 short-ok = record { size = refl; order = refl }
 

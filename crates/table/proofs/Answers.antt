@@ -1,12 +1,15 @@
--- An answer's number and value tell the whole answer, so that a promise of both names one answer. Assumes nothing.
-use mathlib.Core.Path.{_≡_, refl, ap}
+-- An answer's number and value tell the whole answer, so that a promise of both names one answer; and the answer that a call's tests come to.
+-- Assumes nothing.
+use mathlib.Core.Path.{_≡_, _∙_, refl, sym, ap}
 use Prim.Native.Nat.{ℕ}
 use native.Mathlib.Omega.{arith}
+use Rattle.table.specs.Refusals.{Verdict, granted, refused, numberIn, ifGranted}
 use Rattle.table.specs.Answers.{numberOfDone, numberOfLooked, valueOfLooked, numberOfSought, valueOfSought}
 use Rattle.table.specs.declared.Done.{Done}
 use Rattle.table.specs.declared.Looked.{Looked}
 use Rattle.table.specs.declared.Sought.{Sought}
-use Rattle.table.proofs.Refusals.{same-refusal, number-above}
+use Rattle.table.specs.declared.Refusal.{Refusal}
+use Rattle.table.proofs.Refusals.{same-refusal, number-above, same-verdict}
 
 pub same-done : (r s : Done) → numberOfDone r ≡ numberOfDone s → r ≡ s
 same-done Done.Yes Done.Yes e = refl
@@ -25,3 +28,31 @@ same-sought (Sought.At a) (Sought.At b) e v = ap (λ (n : ℕ). Sought.At (recor
 same-sought (Sought.At a) (Sought.Refused b) e v = absurd (omega (arith, number-above b))
 same-sought (Sought.Refused a) (Sought.At b) e v = absurd (omega (arith, number-above a))
 same-sought (Sought.Refused a) (Sought.Refused b) e v = ap Sought.Refused (same-refusal a b e)
+
+-- what a call that only does something answers by its tests
+abbrev pub doneBy : Verdict → Done
+doneBy granted = Done.Yes
+doneBy (refused why) = Done.Refused why
+
+pub done-number : (w : Verdict) → numberOfDone (doneBy w) ≡ numberIn w
+done-number granted = refl
+done-number (refused why) = refl
+
+pub done-is : {r : Done} (w : Verdict) → numberOfDone r ≡ numberIn w → r ≡ doneBy w
+done-is {r} w e = same-done r (doneBy w) (e ∙ sym (done-number w))
+
+-- and what its answer tells of them
+pub done-granted : (w : Verdict) → numberOfDone Done.Yes ≡ numberIn w → w ≡ granted
+done-granted w e = same-verdict w granted (sym e)
+
+pub done-refused : (w : Verdict) (why : Refusal) → numberOfDone (Done.Refused why) ≡ numberIn w → w ≡ refused why
+done-refused w why e = same-verdict w (refused why) (sym e)
+
+-- what a call that seeks a position answers by its tests and the position p
+abbrev pub soughtBy : Verdict → ℕ → Sought
+soughtBy granted p = Sought.At (record { 0 = p })
+soughtBy (refused why) p = Sought.Refused why
+
+pub sought-is : {r : Sought} (w : Verdict) (p : ℕ) → numberOfSought r ≡ numberIn w → valueOfSought r ≡ ifGranted w p 0 → r ≡ soughtBy w p
+sought-is {r} granted p n v = same-sought r (Sought.At (record { 0 = p })) n v
+sought-is {r} (refused why) p n v = same-sought r (Sought.Refused why) n v

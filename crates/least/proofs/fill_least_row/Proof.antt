@@ -30,7 +30,7 @@ shared-slice-read-row-position c = omega arith
 row-position-requires : tie.Need-row-position-requires Inv-loop μ-loop
 row-position-requires c κs =
     let p = c .before .before .before .before .before .before .pre .0 in
-    (p, omega (arith, within-low 1 65536 _ (p .size)))
+    record { passed = p; last = omega (arith, within-low 1 65536 _ (p .size)) }
 
 mul-out : tie.Need-mul-out Inv-loop μ-loop
 mul-out c = search needs

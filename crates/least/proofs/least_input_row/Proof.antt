@@ -3,12 +3,12 @@ use borrow.Author.Needs.{needs}
 use borrow.Author.Tests.{eq-eqb, ne-eqb}
 use denote.Ref.{now}
 use Rattle.table.proofs.Choice.{fails, holds}
-use Rattle.least.specs.Inside.{Searchable}
+use Rattle.least.specs.Inside.{Passed}
 use Rattle.least.proofs.least_input_row.Statement.{statement}
 use Rattle.least.proofs.least_input_row.Tie as tie
 
-searchable : (c : tie.Else3) → Searchable (now (c .before .before .before .before .before .before .before .before .args .table))
-searchable c = record {
+passed : (c : tie.Else3) → Passed (now (c .before .before .before .before .before .before .before .before .args .table))
+passed c = record {
   size = holds (c .before .before .before .before .sized .ensures) (c .before .before .before .if1 .left);
   order = holds (c .before .in-order .ensures) (c .if3 .left);
 }
@@ -39,7 +39,7 @@ returns-3 c =
     record { number = simp (h, l, f); after = simp (h, l, f) }
 
 fill-least-row-requires : tie.Need-fill-least-row-requires
-fill-least-row-requires c κs = (searchable (c .before), c .before .before .before .if2 .left)
+fill-least-row-requires c κs = (passed (c .before), c .before .before .before .if2 .left)
 
 same-length : tie.Need-same-length
 same-length c = search needs
@@ -47,7 +47,7 @@ same-length c = search needs
 returns-4 : tie.Need-returns-4
 returns-4 c =
     let e = c .before .before .before .before in
-    let s = searchable e in
+    let s = passed e in
     let l = eq-eqb _ _ (e .before .before .if2 .left) in
     record {
       number = simp (s .size, l, s .order);

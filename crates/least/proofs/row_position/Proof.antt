@@ -5,7 +5,7 @@ use borrow.Author.Needs.{needs}
 use borrow.Author.Tests.{le-leb, lt-leb}
 use denote.Ref.{now}
 use Rattle.least.specs.Promises.{lastEntry}
-use Rattle.least.proofs.Tables.{last-at}
+use Rattle.least.proofs.Tables.{searchable-last}
 use Rattle.least.proofs.row_position.Statement.{statement}
 use Rattle.least.proofs.row_position.Tie as tie
 
@@ -18,13 +18,13 @@ shared-slice-read-if1 c = search needs
 returns : tie.Need-returns
 returns c =
     let b = c .before .before .before in
-    let l : lastEntry (now (b .args .table)) < b .args .v = omega (arith, last-at (now (b .args .table)) (b .args .top) (b .pre .1)) in
-    simp (b .pre .0 .size, b .pre .0 .order, lt-leb _ _ l)
+    let l : lastEntry (now (b .args .table)) < b .args .v = omega (arith, searchable-last (b .pre)) in
+    simp (b .pre .passed .size, b .pre .passed .order, lt-leb _ _ l)
 
 least-requires : tie.Need-least-requires
 least-requires c κs =
     let b = c .before .before .before in
-    (b .pre .0, (b .pre .1, omega (arith, last-at (now (b .args .table)) (b .args .top) (b .pre .1))))
+    (b .pre, omega (arith, searchable-last (b .pre)))
 
 cast-result : tie.Need-cast-result
 cast-result c = search needs
@@ -32,8 +32,8 @@ cast-result c = search needs
 returns-2 : tie.Need-returns-2
 returns-2 c =
     let b = c .before .before .before .before in
-    let l : b .args .v ≤ lastEntry (now (b .args .table)) = omega (arith, last-at (now (b .args .table)) (b .args .top) (b .pre .1)) in
-    simp (b .pre .0 .size, b .pre .0 .order, le-leb _ _ l) (c .least .ensures .0)
+    let l : b .args .v ≤ lastEntry (now (b .args .table)) = omega (arith, searchable-last (b .pre)) in
+    simp (b .pre .passed .size, b .pre .passed .order, le-leb _ _ l) (c .least .ensures .0)
 
 pub row-position-spec : {M : Type 1} → statement M
 row-position-spec =

@@ -1,0 +1,110 @@
+-- Inside one cell of a table: entry c is below v and the next is not. The least input of v is then worked out by two quotients rounded up, how many steps
+-- past entry c bring the lookup to v, and how many positions bring it that many steps. Assumes nothing.
+use mathlib.Core.Path.{_≡_, _∙_, sym, ap}
+use mathlib.Core.Logic.{⊎-elim, _↔_}
+use mathlib.Core.List.{List}
+use Prim.Native.Nat.{ℕ, suc, _+_, _-_, _*_, _/_, _%_, _≤_, _<_}
+use native.Mathlib.Nat.{le-trans, le-of-suc-le-suc, add-mul, mul-add, mul-comm, suc-mul, add-sub-of-le, mul-le-mul-right, div-lt-iff-lt-mul, le-div-iff-mul-le, div-le-of-le-mul, div-add-mod', mod-lt}
+use native.Mathlib.Omega.{arith}
+use lib.ListN.{length, getD}
+use lib.Dec.{lit<}
+use Rattle.table.proofs.Choice.{below?}
+use Rattle.lookup.specs.Lookup.{steps, entriesOf, lookedUp}
+use Rattle.lookup.proofs.LookupLaws.{lookup-reaches}
+use Rattle.least.specs.Least.{leastOf}
+use Rattle.least.specs.Inside.{Cell, up}
+use Rattle.least.proofs.LeastLaws.{least-only}
+use Rattle.least.proofs.Tables.{searchable-rises, table-obeys, table-rises}
+
+-- a quotient rounded up is at most x exactly if x times the divisor is enough
+pub up-le : (a b x : ℕ) → 0 < b → (up a b ≤ x) ↔ (a ≤ x * b)
+unfolding up
+up-le a b x pos =
+    let i = div-lt-iff-lt-mul {k = b} {x = a + (b - 1)} {y = suc x} pos in
+    ((λ l. omega (arith, i .0 (omega arith), suc-mul x b)), (λ l. le-of-suc-le-suc (i .1 (omega (arith, suc-mul x b)))))
+
+parted : (a k : ℕ) → k ≤ 65535 → a * 65535 ≡ a * k + a * (65535 - k)
+parted a k h = ap (λ (n : ℕ). a * n) (sym (add-sub-of-le h)) ∙ mul-add a k (65535 - k)
+
+-- entries a and b, k of 65535 steps from a to b: weighed so, they reach v exactly if k times their distance covers the way from a to v
+weigh : (a b v k : ℕ) → a ≤ b → a ≤ v → k ≤ 65535 → (v * 65535 ≤ b * k + a * (65535 - k)) ↔ ((v - a) * 65535 ≤ k * (b - a))
+weigh a b v k ab av h =
+    let whole = parted a k h in
+    let parts : b * k ≡ a * k + k * (b - a) = ap (λ (n : ℕ). n * k) (sym (add-sub-of-le ab)) ∙ add-mul a (b - a) k ∙ ap (λ (n : ℕ). a * k + n) (mul-comm (b - a) k) in
+    ((λ l. omega arith), (λ l. omega arith))
+
+-- how many of the 65535 steps from entry c to the next bring the lookup to v
+abbrev pub cellSteps : List ℕ → ℕ → ℕ → ℕ
+cellSteps t v c = up ((v - getD t c 0) * 65535) (getD t (c + 1) 0 - getD t c 0)
+
+module _ {t : List ℕ} {top v c : ℕ} (cell : Cell t top v c) where
+  steps-are : (q : ℕ) → steps (length t) q ≡ q * top
+  steps-are q =
+      let last : length t - 1 ≡ top = omega arith in
+      ap (λ (n : ℕ). q * n) last
+
+  -- at most a whole cell is stepped through
+  pub steps-small : cellSteps t v c ≤ 65535
+  steps-small = up-le ((v - getD t c 0) * 65535) (getD t (c + 1) 0 - getD t c 0) 65535 (omega arith) .1 (omega arith)
+
+  -- in the cell the steps decide,
+  in-cell : (q k : ℕ) → steps (length t) q ≡ c * 65535 + k → k ≤ 65535 → (v ≤ lookedUp t q) ↔ (cellSteps t v c ≤ k)
+  in-cell q k e h =
+      let r = lookup-reaches (entriesOf t) (length t) q v c k e h in
+      let w = weigh (getD t c 0) (getD t (c + 1) 0) v k (omega arith) (omega arith) h in
+      let u = up-le ((v - getD t c 0) * 65535) (getD t (c + 1) 0 - getD t c 0) k (omega arith) in
+      ((λ l. u .1 (w .0 (r .0 l))), (λ l. r .1 (w .1 (u .0 l))))
+
+  -- past it the lookup is at least the next entry,
+  past-cell : (q : ℕ) → q ≤ 65535 → (c + 1) * 65535 ≤ steps (length t) q → v ≤ lookedUp t q
+  past-cell q h l =
+      let from : c + 1 ≤ steps (length t) q / 65535 = le-div-iff-mul-le (lit< tt) .1 l in
+      let to : steps (length t) q / 65535 ≤ top = div-le-of-le-mul 65535 (omega (arith, steps-are q, mul-le-mul-right top h)) in
+      le-trans (cell .reached) (le-trans (searchable-rises (cell .table) (c + 1) (steps (length t) q / 65535) from to) (table-obeys (cell .table .passed) .not-below q h))
+
+  -- and before it at most entry c
+  before-cell : (q : ℕ) → steps (length t) q < c * 65535 → lookedUp t q < v
+  before-cell q l = ⊎-elim (λ m. m) over (below? (lookedUp t q) v)
+    where
+      over : v ≤ lookedUp t q → lookedUp t q < v
+      over r =
+          let i = steps (length t) q / 65535 in
+          let k = steps (length t) q % 65535 in
+          let e : steps (length t) q ≡ i * 65535 + k = sym (div-add-mod' (steps (length t) q) 65535) in
+          let m : k < 65535 = mod-lt (steps (length t) q) (lit< tt) in
+          let h : k ≤ 65535 = omega arith in
+          let j : i < c = div-lt-iff-lt-mul (lit< tt) .1 l in
+          let sum = lookup-reaches (entriesOf t) (length t) q v i k e h .0 r in
+          absurd (omega (arith, parted (getD t c 0) k h, mul-le-mul-right k (searchable-rises (cell .table) (i + 1) c (omega arith) (omega arith)), mul-le-mul-right (65535 - k) (searchable-rises (cell .table) i c (omega arith) (omega arith))))
+
+  reaches : (q : ℕ) → q ≤ 65535 → (v ≤ lookedUp t q) ↔ (c * 65535 + cellSteps t v c ≤ steps (length t) q)
+  reaches q h = ⊎-elim before after (below? (steps (length t) q) (c * 65535))
+    where
+      before : steps (length t) q < c * 65535 → (v ≤ lookedUp t q) ↔ (c * 65535 + cellSteps t v c ≤ steps (length t) q)
+      before l = ((λ r. absurd (omega (arith, before-cell q l))), (λ r. absurd (omega arith)))
+
+      after : c * 65535 ≤ steps (length t) q → (v ≤ lookedUp t q) ↔ (c * 65535 + cellSteps t v c ≤ steps (length t) q)
+      after g = ⊎-elim inside past (below? (steps (length t) q) ((c + 1) * 65535))
+        where
+          inside : steps (length t) q < (c + 1) * 65535 → (v ≤ lookedUp t q) ↔ (c * 65535 + cellSteps t v c ≤ steps (length t) q)
+          inside l =
+              let k = steps (length t) q - c * 65535 in
+              let i = in-cell q k (sym (add-sub-of-le g)) (omega arith) in
+              ((λ r. omega (arith, i .0 r)), (λ r. i .1 (omega arith)))
+
+          past : (c + 1) * 65535 ≤ steps (length t) q → (v ≤ lookedUp t q) ↔ (c * 65535 + cellSteps t v c ≤ steps (length t) q)
+          past l = ((λ r. omega (arith, steps-small)), (λ r. past-cell q h l))
+
+  exact : (q : ℕ) → q ≤ 65535 → (v ≤ lookedUp t q) ↔ (up (c * 65535 + cellSteps t v c) top ≤ q)
+  exact q h =
+      let r = reaches q h in
+      let u = up-le (c * 65535 + cellSteps t v c) top q (omega arith) in
+      ((λ l. u .1 (omega (arith, r .0 l, steps-are q))), (λ l. r .1 (omega (arith, u .0 l, steps-are q))))
+
+  pub cell-inside : up (c * 65535 + cellSteps t v c) top ≤ 65535
+  cell-inside = up-le (c * 65535 + cellSteps t v c) top 65535 (omega arith) .1 (omega (arith, steps-small))
+
+  pub cell-least : leastOf (lookedUp t) v ≡ up (c * 65535 + cellSteps t v c) top
+  cell-least =
+      least-only (lookedUp t) v (table-rises (cell .table .passed)) (up (c * 65535 + cellSteps t v c) top)
+      cell-inside exact
