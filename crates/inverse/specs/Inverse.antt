@@ -42,13 +42,15 @@ abbrev pub notBelow0 : ℤ → ℕ
 notBelow0 (pos k) = k
 notBelow0 (negsuc k) = 0
 
--- start r = 65536; if w > 1: r = (n-1-w)·65535/(n-1) cut toward zero, plus 1. Below 0, where every entry is 65535, it is not above l, and 0 is not either
+-- start r = 65536; if w > 1: r = (n-1-w)·65535/(n-1) cut toward zero, plus 1. Where every entry is 65535 that can lie below 0: it is then not above l,
+-- and neither is 0
 unfoldable pub firstRight : ℕ → ℕ → ℕ
 firstRight n w =
     pick (ltb 1 w) (notBelow0 (quotZ ((pos n -ℤ pos 1 -ℤ pos w) *ℤ pos 65535) (pos n -ℤ pos 1) +ℤ pos 1)) 65536
 
--- While r > l: x = floor((l+r)/2), look up x-1; the first exact hit leaves the search, with its x-1; above the value r = x-1, below l = x+1. With no hit the search
--- ends with the x that it probed last. The last candidate, r = l, is not probed. `fuel` bounds the number of probes: r - l is always enough.
+-- While r > l: x = floor((l+r)/2), look up x-1; the first exact hit leaves the search, with its x-1; above the value r = x-1, below l = x+1. With no hit
+-- the search ends with the x that it probed last. The last candidate, r = l, is not probed. `fuel` bounds the number of probes, and r - l is always
+-- enough (the law `fuel-enough`).
 unfoldable pub search : ℕ → List ℕ → ℕ → ℕ → ℕ → ℕ → Found
 search zero t v l r last = Missed last
 search (suc fuel) t v l r last =

@@ -1,5 +1,6 @@
 -- `first_left` meets its contract: the quotient is at least 1, so that one less is no wrap. Assumes nothing.
 use mathlib.Core.Path.{sym}
+use native.Mathlib.Omega.{arith}
 use borrow.Author.Needs.{needs}
 use Rattle.inverse.proofs.Start.{left-one, left-some, left-quotient-low}
 use Rattle.inverse.proofs.first_left.Statement.{statement}
@@ -18,7 +19,9 @@ div-result : tie.Need-div-result
 div-result c = search needs
 
 sub-result-3 : tie.Need-sub-result-3
-sub-result-3 c = left-quotient-low _ _ (c .if1 .taken) (c .before .pre .0) (c .before .pre .1)
+sub-result-3 c =
+    let low = left-quotient-low _ _ (c .if1 .taken) (c .before .pre .0) (c .before .pre .1) in
+    omega arith
 
 returns : tie.Need-returns
 returns c = sym (left-some _ _ (c .if1 .taken))

@@ -1,6 +1,6 @@
 -- `first_right` meets its contract: where every entry is 65535 the whole numbers go below 0, and otherwise nothing wraps. Assumes nothing.
 use mathlib.Core.Path.{sym}
-use Prim.Native.Nat.{_<_}
+use Prim.Native.Nat.{_≤_, _<_}
 use native.Mathlib.Omega.{arith}
 use borrow.Author.Needs.{needs}
 use Rattle.inverse.proofs.Start.{right-none, right-some, right-all, right-quotient}
@@ -8,7 +8,9 @@ use Rattle.inverse.proofs.first_right.Statement.{statement}
 use Rattle.inverse.proofs.first_right.Tie as tie
 
 returns : tie.Need-returns
-returns c = sym (right-none _ _ (c .if1 .taken))
+returns c =
+    let h : c .before .args .w ≤ 1 = omega arith in
+    sym (right-none _ _ h)
 
 returns-2 : tie.Need-returns-2
 returns-2 c = sym (right-all _ _ (c .before .if1 .left) (c .if2 .taken) (c .before .before .pre .1))

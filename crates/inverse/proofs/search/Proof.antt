@@ -40,7 +40,10 @@ lookup-to-requires c κs =
     omega (arith, within-low 1 65536 _ p, within-high 1 65536 _ p)
 
 sub-r : tie.Need-sub-r Inv-loop μ-loop
-sub-r c = let e = c .before .before .before in probe-low _ _ _ _ (e .before .loop .inv .0) (e .if1 .left)
+sub-r c =
+    let e = c .before .before .before in
+    let low = probe-low _ _ _ _ (e .before .loop .inv .0) (e .if1 .left) in
+    omega arith
 
 loop-less : tie.Need-loop-less Inv-loop μ-loop
 loop-less c = omega arith
