@@ -1,9 +1,11 @@
 //! The case file's layout, in one place for its writer and its readers. README.md has it in words.
 
+use Shape::{Halves, List, Tag, Words};
+
 /// The first eight bytes of a case file; the last is the format's version.
 pub const MAGIC: [u8; 8] = *b"BGCASES1";
 
-/// The file's head: the magic, whether it was written by the fused build, the weights asked for, and the seed.
+/// The file's head: the magic, whether the build was the fused one, how many answers were asked for, and the seed.
 pub const FILE_HEAD: usize = 32;
 
 /// A record's head: its bytes, its routine, how many entries and how many questions follow.
@@ -44,8 +46,6 @@ pub struct Routine {
 const fn routine(number: u32, name: &'static str, entry: usize, question: usize, answer: Shape) -> Routine {
     Routine { number, name, entry, question, answer }
 }
-
-use Shape::{Halves, List, Tag, Words};
 
 pub const LUT_INTERP_LINEAR16: u32 = 1;
 pub const LUT_INTERP_LINEAR_GAMMA_IMPL: u32 = 2;

@@ -20,7 +20,7 @@ use std::process::ExitCode;
 
 const USAGE: &str = "\
 oracle CASES SEED OUTFILE         write about CASES answers
-oracle --show FILE N              print the first N records
+oracle --show FILE N [ROUTINE]    print the first N records, of all or of the routine with this number
 oracle --count FILE               count a file's answers by routine
 oracle --differences PLAIN FUSED  where two files of the same questions differ
 oracle --known                    compare with answers that are known";
@@ -41,7 +41,8 @@ fn main() -> ExitCode {
 
 fn run(words: &[&str]) -> Result<bool, String> {
     match words {
-        ["--show", file, count] => show::show(file, number(count)?)?,
+        ["--show", file, count] => show::show(file, number(count)?, None)?,
+        ["--show", file, count, routine] => show::show(file, number(count)?, Some(number(routine)?))?,
         ["--count", file] => show::count(file)?,
         ["--differences", plain, fused] => differences::differences(plain, fused)?,
         ["--known"] => return Ok(known::known()),

@@ -11,22 +11,29 @@ use crate::tally::Tally;
 /// Items of a list, and questions of a record, that are shown.
 const SHOWN: usize = 16;
 
-/// Prints the first `count` records.
-pub fn show(path: &str, count: u64) -> Result<(), Trouble> {
+/// Prints the first `count` records, of all or of one routine.
+pub fn show(path: &str, count: u64, routine: Option<u64>) -> Result<(), Trouble> {
     let mut reader = Reader::open(path)?;
     let build = if reader.fused { "fused" } else { "plain" };
-    println!("{build}, {} cases, seed {}", reader.cases, reader.seed);
-    for number in 1..=count {
+    println!("{build} build, {} cases, seed {}", reader.cases, reader.seed);
+    let mut shown = 0;
+    let mut number = 0;
+    while shown < count {
         let Some(record) = reader.next()? else { break };
-        show_record(number, &record)?;
+        number += 1;
+        if routine.is_none_or(|wanted| wanted == u64::from(record.routine.number)) {
+            show_record(number, &record)?;
+            shown += 1;
+        }
     }
     Ok(())
 }
 
 fn show_record(number: u64, record: &Record) -> Result<(), Trouble> {
     let questions = record.questions()?;
-    println!("record {number}: {}, {} entries, {} questions", record.routine.name, record.entries, questions.len());
-    if record.routine.entry > 0 {
+    let routine = record.routine;
+    println!("record {number}: routine {}, {}; questions: {}", routine.number, routine.name, questions.len());
+    if routine.entry > 0 {
         println!("  {}", table(record));
     }
     for question in questions.iter().take(SHOWN) {

@@ -1,6 +1,6 @@
 //! `lut_inverse_interp16` and `invert_lut`.
 
-use super::on_tables::{Asking, MANY};
+use super::on_tables::{Asking, Corner, MANY, write_corners};
 use crate::ask::marked;
 use crate::cases::{Answer, Cases, Record};
 use crate::generator::Generator;
@@ -18,7 +18,7 @@ const ZEROS: [usize; 6] = [32768, 32769, 32770, 32771, 40000, 65536];
 const BEFORE_LAST_RUN: [usize; 6] = [2, 32767, 32768, 32769, 32770, 50000];
 
 /// Document 01's own numbers, and tables that are known to be caught on one step or another.
-const CORNERS: [(&[u16], &[u16]); 11] = [
+const CORNERS: [Corner; 11] = [
     (&[0, 100, 65535], &[0, 100, 65534]),
     (&[65535, 65535], &[7]),
     (&[5], &[0, 3, 5, 9]),
@@ -44,13 +44,9 @@ const STEPPED: [u16; 86] = {
 };
 
 pub fn inverse(cases: &mut Cases, g: &mut Generator, share: u64) {
-    for (table, values) in CORNERS {
-        let mut record = Record::of_table(LUT_INVERSE_INTERP16, table);
-        for &value in values {
-            invert_one(&mut record, table, value);
-        }
-        cases.put(record);
-    }
+    write_corners(cases, LUT_INVERSE_INTERP16, &CORNERS, invert_one);
+    about_the_least_slope(cases, g, share / 50);
+    about_a_border(cases, g, share / 20);
     about_a_half(cases, g, share / 20);
     about_the_overflow(cases, g, share / 20);
     Asking {
@@ -81,31 +77,81 @@ fn invert_one(record: &mut Record, table: &[u16], value: u16) {
     record.add(&[u32::from(value)], mark, Answer::Words(&[answer]));
 }
 
-/// Tables with one steep cell and values for which the exact result there is a half: which way it is rounded is decided by
-/// the f64 steps before. The cells' number divides 255, so 65535 parted by it is a multiple of 257; the steep cell
-/// rises by 514 steps, and an odd number of steps up is half a position.
-fn about_a_half(cases: &mut Cases, g: &mut Generator, part: u64) {
+/// Straight tables whose slope lies about 0.01, asked for values a little beyond their ends, where the slope decides.
+fn about_the_least_slope(cases: &mut Cases, g: &mut Generator, part: u64) {
     let until = cases.written(LUT_INVERSE_INTERP16) + part;
     while cases.written(LUT_INVERSE_INTERP16) < until {
-        let cells = g.pick(&[3, 5, 15, 17, 51, 85, 255]);
-        let step = g.between(65535 / cells / 514 + 1, 127);
-        let low = g.below(65536 - 514 * step);
-        let table = with_steep_cell(g, cells, low, low + 514 * step);
+        let cells = g.between(1, 40);
+        let rise = 65535 / (100 * cells) + g.below(2);
+        let low = g.between(10, 60000);
+        let mut table: Vec<u16> = (0..=cells).map(|i| (low + i * rise) as u16).collect();
+        if g.once_in(4) {
+            table.reverse();
+        }
         let mut record = Record::of_table(LUT_INVERSE_INTERP16, &table);
-        for _ in 0..16 {
-            let odd = 2 * g.below(257) + 1;
-            invert_one(&mut record, &table, (low + odd * step) as u16);
+        for end in [low, low + cells * rise] {
+            for _ in 0..4 {
+                invert_one(&mut record, &table, g.near(end, 10));
+            }
         }
         cases.put(record);
     }
 }
 
-/// A rising table with neighbours `low` and `high` somewhere.
-fn with_steep_cell(g: &mut Generator, cells: usize, low: usize, high: usize) -> Vec<u16> {
-    let before = g.below(cells);
-    let mut table: Vec<u16> = (0..before).map(|_| g.between(0, low) as u16).collect();
-    table.extend([low as u16, high as u16]);
-    table.extend((before + 1..cells).map(|_| g.between(high, 65535) as u16));
+/// Tables with one step, beside an entry that lies at a whole position, asked so that the search ends there. Of those entries
+/// mostly such as the f64 steps miss: the position that is the entry's then seems to lie in a cell beside it.
+fn about_a_border(cases: &mut Cases, g: &mut Generator, part: u64) {
+    let until = cases.written(LUT_INVERSE_INTERP16) + part;
+    while cases.written(LUT_INVERSE_INTERP16) < until {
+        let divisor = g.pick(&[3, 5, 15, 17, 51, 85, 255, 257, 771, 1285, 3855]);
+        let cells = divisor * g.between(1, 4096 / divisor);
+        let entry = g.between(1, divisor - 1) * (cells / divisor);
+        let position = 65535 * entry / cells;
+        let missed = cells as f64 * (position as f64 / 65535.0) != entry as f64;
+        if missed || g.once_in(16) {
+            let low = g.between(1, 1000);
+            let high = g.between(50000, 65534);
+            let before = entry + g.below(2);
+            let mut table = vec![low as u16; before];
+            table.resize(cells + 1, high as u16);
+            let mut record = Record::of_table(LUT_INVERSE_INTERP16, &table);
+            for _ in 0..8 {
+                let near = g.pick(&[low, high]);
+                invert_one(&mut record, &table, g.near(near, 3));
+            }
+            cases.put(record);
+        }
+    }
+}
+
+/// Tables with one steep cell and values for which the exact result there is a half: which way it is rounded is decided by
+/// the f64 steps. With d·w cells, d a divisor of 65535, half position u/2 lies u·w parts up, of which a cell has 131070/d.
+fn about_a_half(cases: &mut Cases, g: &mut Generator, part: u64) {
+    let until = cases.written(LUT_INVERSE_INTERP16) + part;
+    while cases.written(LUT_INVERSE_INTERP16) < until {
+        let d = g.pick(&[3, 5, 15, 17, 51, 85, 255, 257, 771, 1285]);
+        let w = g.pick(&[1, 2, 3, 4, 7, 11, 13, 19]).min(4096 / d);
+        let parts = 131_070 / d;
+        let step = g.between(1, 65535 / parts);
+        let steep = g.below(d * w);
+        let low = g.below(65536 - parts * step);
+        let table = with_steep_cell(g, d * w, steep, [low, low + parts * step]);
+        let mut record = Record::of_table(LUT_INVERSE_INTERP16, &table);
+        for _ in 0..16 {
+            let up = g.below(parts);
+            let half = (steep * parts + up) / w | 1;
+            let up = (half * w).saturating_sub(steep * parts).min(parts);
+            invert_one(&mut record, &table, (low + up * step) as u16);
+        }
+        cases.put(record);
+    }
+}
+
+/// A rising table with these two as the ends of one cell.
+fn with_steep_cell(g: &mut Generator, cells: usize, cell: usize, ends: [usize; 2]) -> Vec<u16> {
+    let mut table: Vec<u16> = (0..cell).map(|_| g.between(0, ends[0]) as u16).collect();
+    table.extend(ends.map(|end| end as u16));
+    table.extend((cell + 1..cells).map(|_| g.between(ends[1], 65535) as u16));
     table.sort_unstable();
     table
 }
@@ -171,7 +217,23 @@ fn inverted_length(g: &mut Generator, turn: u64, left: u64) -> usize {
             }
         }
     }
+    if turn % 4 == 1 {
+        return off_exact_length(g);
+    }
     g.pick(&[2, 3, 4, 5, 17, 27, 52, 103, 255, 256, 257, 1023, 1024])
+}
+
+/// A length of which some question in f64 steps is not what exact rounding would ask.
+fn off_exact_length(g: &mut Generator) -> usize {
+    loop {
+        let length = g.between(3, 400);
+        let last = length - 1;
+        let scale = 65535.0 / last as f64;
+        let off = |i: &usize| (*i as f64 * scale + 0.5).floor() as usize != (131_070 * i + last) / (2 * last);
+        if (0..length).any(|i| off(&i)) {
+            return length;
+        }
+    }
 }
 
 fn invert_all(record: &mut Record, table: &[u16], inverted: usize) {

@@ -1,6 +1,6 @@
 //! The 16-bit lookup and the integer gamma lookup.
 
-use super::on_tables::{Asking, MANY};
+use super::on_tables::{Asking, Corner, MANY, write_corners};
 use crate::ask::marked;
 use crate::cases::{Answer, Cases, Record};
 use crate::generator::Generator;
@@ -12,7 +12,7 @@ use moxcms::GAMMA_SIZES;
 const POSITIONS: [u16; 14] = [0, 1, 2, 21844, 21845, 21846, 32767, 32768, 43689, 43690, 43691, 65533, 65534, 65535];
 
 /// Document 01's own numbers.
-const CORNERS: [(&[u16], &[u16]); 4] =
+const CORNERS: [Corner; 4] =
     [(&[0, 65535], &[12345]), (&[1000], &[65535]), (&[0, 100, 65535], &[32767, 32768]), (&[65535, 0], &[1])];
 
 /// The smallest N at which the Rust's u32 sum can overflow, for each depth from 1 to 14.
@@ -20,13 +20,7 @@ const FIRST_OVERFLOWS: [usize; 14] =
     [43693, 56176, 61169, 63424, 64498, 65022, 65281, 65410, 65474, 65506, 65522, 65530, 65534, 65536];
 
 pub fn linear16(cases: &mut Cases, g: &mut Generator, share: u64) {
-    for (table, positions) in CORNERS {
-        let mut record = Record::of_table(LUT_INTERP_LINEAR16, table);
-        for &position in positions {
-            look_up(&mut record, table, position);
-        }
-        cases.put(record);
-    }
+    write_corners(cases, LUT_INTERP_LINEAR16, &CORNERS, look_up);
     about_a_whole_number(cases, g, share / 50);
     Asking {
         routine: LUT_INTERP_LINEAR16,

@@ -5,6 +5,20 @@ use crate::cases::{Cases, Record};
 use crate::generator::Generator;
 use crate::tables::{LARGE_LENGTHS, SHORT_TABLES, SMALL_LENGTHS, TOO_LONG, neither, random_table, short_table};
 
+/// A table of its own, and what is asked of it.
+pub type Corner = (&'static [u16], &'static [u16]);
+
+/// Asks each corner's questions of its table.
+pub fn write_corners(cases: &mut Cases, routine: u32, corners: &[Corner], ask: fn(&mut Record, &[u16], u16)) {
+    for (table, questions) in corners {
+        let mut record = Record::of_table(routine, table);
+        for &question in *questions {
+            ask(&mut record, table, question);
+        }
+        cases.put(record);
+    }
+}
+
 /// Large tables of a routine that is asked many questions of each.
 pub const MANY: usize = 64;
 
