@@ -1,9 +1,9 @@
 //! Case files in text.
 
 use crate::layout::{
-    COMPARE_PARAMETRIC, F64_AS_F32, INVERT_LUT, IS_CURVE_MONOTONIC, LUT_INTERP_LINEAR, LUT_INTERP_LINEAR_FLOAT,
-    LUT_INTERP_LINEAR_GAMMA_IMPL, OUTSIDE, PARAMETERS, PARAMETRIC_CURVE_NEW, PASSTHROUGH_TABLE_IMPL, RAW_AS_F32,
-    U8_FIXED_8NUMBER_TO_FLOAT, WRITE_CURV, WRITE_PARA, refusal,
+    COMPARE_PARAMETRIC, F64_AS_F32, INVERT_LUT, IS_CURVE_DEGENERATED, IS_CURVE_MONOTONIC, LUT_INTERP_LINEAR,
+    LUT_INTERP_LINEAR_FLOAT, LUT_INTERP_LINEAR_GAMMA_IMPL, OUTSIDE, PARAMETERS, PARAMETRIC_CURVE_NEW,
+    PASSTHROUGH_TABLE_IMPL, RAW_AS_F32, U8_FIXED_8NUMBER_TO_FLOAT, WRITE_CURV, WRITE_PARA, refusal,
 };
 use crate::read::{self, Question, Reader, Record, Trouble};
 use crate::tally::Tally;
@@ -70,6 +70,7 @@ pub fn line(record: &Record, question: &Question) -> String {
     match (refusal(question.mark), question.mark >= OUTSIDE) {
         (0, false) => format!("{asked} -> {answer}"),
         (0, true) => format!("{asked} -> {answer} (outside the Rust)"),
+        (number, false) if question.answer.is_empty() => format!("{asked} -> refusal {number} (the Rust answers)"),
         (number, false) => format!("{asked} -> refusal {number} (the Rust: {answer})"),
         (number, true) => format!("{asked} -> refusal {number} (outside the Rust)"),
     }
@@ -94,7 +95,9 @@ fn asked(routine: u32, words: &[u32]) -> String {
             let raw = list(&words[1..], |word| (word as i32).to_string());
             format!("type {} {raw}", words[0])
         }
-        _ => words.first().map_or("verdict".into(), |&word| decimal(word)),
+        IS_CURVE_DEGENERATED => "verdict".into(),
+        WRITE_CURV => "tag".into(),
+        _ => decimal(words[0]),
     }
 }
 

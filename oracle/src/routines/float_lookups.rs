@@ -174,8 +174,8 @@ fn at_f32(record: &mut Record, entries: &[f32], pattern: u32) {
         || bits(moxcms::lut_interp_linear_float(input, entries)),
         || bits(widened::lut_interp_linear_float(input, entries)),
     );
-    if signalling {
-        mark |= OUTSIDE;
+    if signalling && mark == 0 {
+        mark = OUTSIDE;
     }
     record.add(&[pattern], mark, Answer::Words(&[answer.unwrap_or(0)]));
 }

@@ -103,8 +103,8 @@ fn about_the_least_slope(cases: &mut Cases, g: &mut Generator, part: u64) {
 fn about_a_border(cases: &mut Cases, g: &mut Generator, part: u64) {
     let until = cases.written(LUT_INVERSE_INTERP16) + part;
     while cases.written(LUT_INVERSE_INTERP16) < until {
-        let divisor = g.pick(&[3, 5, 15, 17, 51, 85, 255, 257, 771, 1285, 3855]);
-        let cells = divisor * g.between(1, 4096 / divisor);
+        let divisor = g.pick(&[3, 5, 15, 17, 51, 85, 255, 257, 771, 1285]);
+        let cells = divisor * g.between(1, 1300 / divisor);
         let entry = g.between(1, divisor - 1) * (cells / divisor);
         let position = 65535 * entry / cells;
         let missed = cells as f64 * (position as f64 / 65535.0) != entry as f64;
@@ -115,7 +115,7 @@ fn about_a_border(cases: &mut Cases, g: &mut Generator, part: u64) {
             let mut table = vec![low as u16; before];
             table.resize(cells + 1, high as u16);
             let mut record = Record::of_table(LUT_INVERSE_INTERP16, &table);
-            for _ in 0..8 {
+            for _ in 0..16 {
                 let near = g.pick(&[low, high]);
                 invert_one(&mut record, &table, g.near(near, 3));
             }
@@ -125,22 +125,24 @@ fn about_a_border(cases: &mut Cases, g: &mut Generator, part: u64) {
 }
 
 /// Tables with one steep cell and values for which the exact result there is a half: which way it is rounded is decided by
-/// the f64 steps. With d·w cells, d a divisor of 65535, half position u/2 lies u·w parts up, of which a cell has 131070/d.
+/// the f64 steps. With d·w cells, where d and then e divide 65535, a cell has 131070/(d·e) parts, and u·w parts from the
+/// table's start lie at position e·u/2, a half for an odd u. Each part is so many steps up that no position hits its value.
 fn about_a_half(cases: &mut Cases, g: &mut Generator, part: u64) {
     let until = cases.written(LUT_INVERSE_INTERP16) + part;
     while cases.written(LUT_INVERSE_INTERP16) < until {
         let d = g.pick(&[3, 5, 15, 17, 51, 85, 255, 257, 771, 1285]);
         let w = g.pick(&[1, 2, 3, 4, 7, 11, 13, 19]).min(4096 / d);
-        let parts = 131_070 / d;
-        let step = g.between(1, 65535 / parts);
+        let e = g.pick(&[1, 3, 5, 17, 51, 85, 257, 771, 1285, 4369]);
+        let e = if 65535 / d % e == 0 { e } else { 1 };
+        let parts = 131_070 / d / e;
+        let step = g.between(e / (2 * w) + 1, 65535 / parts);
         let steep = g.below(d * w);
         let low = g.below(65536 - parts * step);
         let table = with_steep_cell(g, d * w, steep, [low, low + parts * step]);
         let mut record = Record::of_table(LUT_INVERSE_INTERP16, &table);
         for _ in 0..16 {
-            let up = g.below(parts);
-            let half = (steep * parts + up) / w | 1;
-            let up = (half * w).saturating_sub(steep * parts).min(parts);
+            let odd = ((steep * parts + g.below(parts)) / w) | 1;
+            let up = (odd * w).saturating_sub(steep * parts).min(parts);
             invert_one(&mut record, &table, (low + up * step) as u16);
         }
         cases.put(record);
@@ -186,7 +188,7 @@ pub fn invert(cases: &mut Cases, g: &mut Generator, share: u64) {
     let mut turn = 0;
     while cases.written(INVERT_LUT) < share {
         let left = share - cases.written(INVERT_LUT);
-        let length = if turn % 16 == 7 { g.pick(&LARGE_LENGTHS) } else { g.pick(&SMALL_LENGTHS) };
+        let length = if turn % 8 == 5 { LARGE_LENGTHS[turn / 8 % LARGE_LENGTHS.len()] } else { g.pick(&SMALL_LENGTHS) };
         let table = random_table(g, length);
         let mut record = Record::of_table(INVERT_LUT, &table);
         invert_all(&mut record, &table, inverted_length(g, turn, left));
@@ -208,7 +210,7 @@ fn refused(cases: &mut Cases, g: &mut Generator) {
 }
 
 /// An inverted length. The longest come where they take at most a quarter of what is left.
-fn inverted_length(g: &mut Generator, turn: u64, left: u64) -> usize {
+fn inverted_length(g: &mut Generator, turn: usize, left: u64) -> usize {
     let longest = [65536, 65535, 32769, 16384];
     if turn % 4 == 3 {
         for length in longest {
