@@ -5,6 +5,9 @@ use crate::generator::Generator;
 const SIGN_32: u32 = 1 << 31;
 const SIGN_64: u64 = 1 << 63;
 
+/// A NaN whose bits no machine chose: the bits of a question must not come from arithmetic on NaNs.
+const A_NAN_64: u64 = 0x7ff8_0000_0000_0000;
+
 /// Zero, the ends of the subnormals, small, about a half, about 1, large, infinite, and NaNs, the first one signalling.
 pub const CORNERS_32: [u32; 23] = [
     0x0000_0000,
@@ -139,6 +142,9 @@ pub fn about_an_f32(g: &mut Generator) -> u64 {
     let this = f64::from(f32::from_bits(narrow));
     let next = f64::from(f32::from_bits(narrow.wrapping_add(1)));
     let chosen = g.pick(&[this, (this + next) / 2.0]);
+    if chosen.is_nan() {
+        return A_NAN_64 | u64::from(narrow);
+    }
     beside_64(g, chosen.to_bits(), 2)
 }
 

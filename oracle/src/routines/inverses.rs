@@ -130,10 +130,10 @@ fn about_a_border(cases: &mut Cases, g: &mut Generator, part: u64) {
 fn about_a_half(cases: &mut Cases, g: &mut Generator, part: u64) {
     let until = cases.written(LUT_INVERSE_INTERP16) + part;
     while cases.written(LUT_INVERSE_INTERP16) < until {
-        let d = g.pick(&[3, 5, 15, 17, 51, 85, 255, 257, 771, 1285]);
+        let d: usize = g.pick(&[3, 5, 15, 17, 51, 85, 255, 257, 771, 1285]);
         let w = g.pick(&[1, 2, 3, 4, 7, 11, 13, 19]).min(4096 / d);
         let e = g.pick(&[1, 3, 5, 17, 51, 85, 257, 771, 1285, 4369]);
-        let e = if 65535 / d % e == 0 { e } else { 1 };
+        let e = if (65535 / d).is_multiple_of(e) { e } else { 1 };
         let parts = 131_070 / d / e;
         let step = g.between(e / (2 * w) + 1, 65535 / parts);
         let steep = g.below(d * w);

@@ -65,6 +65,7 @@ fn beside(g: &mut Generator, pattern: u32) -> u32 {
     let step = f32::from_bits(1e-4f32.to_bits() + g.below(9) as u32 - 4);
     match g.below(16) {
         0 => any_32(g),
+        _ if number.is_nan() => pattern,
         1..=3 => (number + step).to_bits(),
         4..=6 => (number - step).to_bits(),
         7..=9 => (number + step / 2.0).to_bits(),
