@@ -18,7 +18,8 @@ const ZEROS: [usize; 6] = [32768, 32769, 32770, 32771, 40000, 65536];
 const BEFORE_LAST_RUN: [usize; 6] = [2, 32767, 32768, 32769, 32770, 50000];
 
 /// Document 01's own numbers, and tables that are known to be caught on one step or another.
-const CORNERS: [Corner; 11] = [
+const CORNERS: [Corner; 12] = [
+    (&[], &[0, 1]),
     (&[0, 100, 65535], &[0, 100, 65534]),
     (&[65535, 65535], &[7]),
     (&[5], &[0, 3, 5, 9]),
