@@ -125,15 +125,15 @@ same-counted (Counted.Entries m) (Counted.Refused b) e v = absurd (omega (arith,
 same-counted (Counted.Refused a) (Counted.Entries n) e v = absurd (omega (arith, number-above a))
 same-counted (Counted.Refused a) (Counted.Refused b) e v = ap Counted.Refused (same-refusal a b e)
 
-pub one-count : {b : List ℕ} {r s : Counted} → CountPromise b r → CountPromise b s → r ≡ s
-one-count {b} {r} {s} p q = same-counted r s (p .number ∙ sym (q .number)) (p .value ∙ sym (q .value))
+pub count-one : {b : List ℕ} {r s : Counted} → CountPromise b r → CountPromise b s → r ≡ s
+count-one {b} {r} {s} p q = same-counted r s (p .number ∙ sym (q .number)) (p .value ∙ sym (q .value))
 
-pub one-read : {b out out′ out″ : List ℕ} {r s : Done} → ReadPromise b out r out′ → ReadPromise b out s out″ → (r ≡ s) × (out′ ≡ out″)
-one-read {r = r} {s = s} p q = (same-done r s (p .number ∙ sym (q .number)), p .after ∙ sym (q .after))
+pub read-one : {b out out′ out″ : List ℕ} {r s : Done} → ReadPromise b out r out′ → ReadPromise b out s out″ → (r ≡ s) × (out′ ≡ out″)
+read-one {r = r} {s = s} p q = (same-done r s (p .number ∙ sym (q .number)), p .after ∙ sym (q .after))
 
-pub one-part : {tag part other : RefT (List ℕ)} {why′ why″ : ℕ} → PartPromise tag part why′ → PartPromise tag other why″
+pub part-one : {tag part other : RefT (List ℕ)} {why′ why″ : ℕ} → PartPromise tag part why′ → PartPromise tag other why″
     → (why′ ≡ why″) × (now part ≡ now other) × (part .ptr ≡ other .ptr)
-one-part p q = (p .number ∙ sym (q .number), p .bytes ∙ sym (q .bytes), p .place ∙ sym (q .place))
+part-one p q = (p .number ∙ sym (q .number), p .bytes ∙ sym (q .bytes), p .place ∙ sym (q .place))
 
-pub one-write : {t out out′ out″ : List ℕ} {r s : Done} → WritePromise t out r out′ → WritePromise t out s out″ → (r ≡ s) × (out′ ≡ out″)
-one-write {r = r} {s = s} p q = (same-done r s (p .number ∙ sym (q .number)), p .after ∙ sym (q .after))
+pub write-one : {t out out′ out″ : List ℕ} {r s : Done} → WritePromise t out r out′ → WritePromise t out s out″ → (r ≡ s) × (out′ ≡ out″)
+write-one {r = r} {s = s} p q = (same-done r s (p .number ∙ sym (q .number)), p .after ∙ sym (q .after))

@@ -20,7 +20,7 @@ use Rattle.curv.specs.Promises.{tagVerdict, CountPromise, ReadPromise, P
 use Rattle.curv.proofs.Checks.{Readable, readable, grants, total-exact, total-room}
 use Rattle.curv.proofs.Entries.{entries-back, bytes-entries, length-bytes}
 use Rattle.curv.proofs.Written.{length-head, tag-count, tag-readable}
-use Rattle.curv.proofs.Promises.{granted-read, granted-part, granted-write, one-count, one-read, one-write, count-granted, read-granted, write-granted}
+use Rattle.curv.proofs.Promises.{granted-read, granted-part, granted-write, count-one, read-one, write-one, count-granted, read-granted, write-granted}
 
 -- the bytes of the part are those of the entries
 pub part-entries : (b : List ℕ) → EightBits b → Readable b → partOf b ≡ bytesOf (entriesOf b)
@@ -68,12 +68,12 @@ module _ {t out tag : List ℕ} (written : WritePromise t out Done.Yes tag) wher
       (take-all (2 * length t) (bytesOf t) (omega (arith, length-bytes t)))
 
   pub written-counts : {r : Counted} → CountPromise tag r → r ≡ Counted.Entries (length t)
-  written-counts p = one-count p (count-granted tag (length t) granted-stated (sym count-stated))
+  written-counts p = count-one p (count-granted tag (length t) granted-stated (sym count-stated))
 
   pub written-reads : {buffer t′ : List ℕ} {r : Done} → length buffer ≡ length t → ReadPromise tag buffer r t′ → (r ≡ Done.Yes) × (t′ ≡ t)
   written-reads {buffer} e p =
       let n : length buffer ≡ countOf tag = e ∙ sym count-stated in
-      let s = one-read p (read-granted tag buffer _ granted-stated n refl) in
+      let s = read-one p (read-granted tag buffer _ granted-stated n refl) in
       (s .0, s .1 ∙ ap (tabulated (entryAt tag)) n ∙ entries-stated)
 
   pub written-part : {lent part : RefT (List ℕ)} {why′ : ℕ} → now lent ≡ tag → PartPromise lent part why′ → (why′ ≡ 0) × (now part ≡ bytesOf t)
@@ -90,5 +90,5 @@ read-writes {b} {out} {t} {buffer} w read e p =
     let long : length t ≡ countOf b = ap length (g .2) ∙ length-tabulated (entryAt b) (countOf b) in
     let few : length t ≤ 65536 = omega (arith, ok .few) in
     let room : length buffer ≡ tagLength (length t) = omega (arith, total-exact (countOf b) (length b) (ok .whole)) in
-    let s = one-write p (write-granted t buffer _ few room refl) in
+    let s = write-one p (write-granted t buffer _ few room refl) in
     (s .0, s .1 ∙ ap tagOf (g .2) ∙ tag-rewritten b w ok)

@@ -31,17 +31,17 @@ abbrev two : List ℕ
 two = begun (0 ∷ 0 ∷ 0 ∷ 2 ∷ 18 ∷ 52 ∷ 255 ∷ 254 ∷ [])
 
 -- Counted and read.
-none-counted : CountPromise none (Counted.Entries 0)
+ncount-oneed : CountPromise none (Counted.Entries 0)
 unfolding tagVerdict stands total be32
-none-counted = record { number = refl; value = refl }
+ncount-oneed = record { number = refl; value = refl }
 
-none-read : ReadPromise none [] Done.Yes []
+nread-one : ReadPromise none [] Done.Yes []
 unfolding tagVerdict stands total be32 tabulated
-none-read = record { number = refl; after = refl }
+nread-one = record { number = refl; after = refl }
 
-one-read : ReadPromise one (7 ∷ []) Done.Yes (563 ∷ [])
+read-one : ReadPromise one (7 ∷ []) Done.Yes (563 ∷ [])
 unfolding tagVerdict stands total be16 be32 entryAt tabulated
-one-read = record { number = refl; after = refl }
+read-one = record { number = refl; after = refl }
 
 two-counted : CountPromise two (Counted.Entries 2)
 unfolding tagVerdict stands total be32
@@ -57,9 +57,9 @@ module _ (at : ℕ × ℕ) (g h : GName) where
   unfolding tagVerdict stands total be32
   two-part = record { number = refl; bytes = refl; place = refl }
 
-  none-part : PartPromise (record { ptr = at; name = g; now = none }) (record { ptr = past 12 at; name = h; now = [] }) 0
+  npart-one : PartPromise (record { ptr = at; name = g; now = none }) (record { ptr = past 12 at; name = h; now = [] }) 0
   unfolding tagVerdict stands total be32
-  none-part = record { number = refl; bytes = refl; place = refl }
+  npart-one = record { number = refl; bytes = refl; place = refl }
 
   refused-part : PartPromise (record { ptr = at; name = g; now = [] }) (record { ptr = at; name = h; now = [] }) 8
   unfolding tagVerdict
