@@ -1,8 +1,8 @@
--- Each promise names one answer and one later sitting, refused calls too; and what a promise tells by the answer alone.
+-- Each promise is met (`start-some`, `accept-some`, `nudge-some`), and names one answer and one later sitting, refused calls too; and what it tells by the answer.
 -- Whatever is lent or asked, an empty table, one of 65,537 entries, a falling one, any index, any value: there is one numbered answer (`start-answer`,
 -- `accept-answer`, `nudge-answer`), and a refused call leaves the table as it was (`start-refused`, `accept-same`, `nudge-refused`).
 -- Assumes nothing.
-use mathlib.Core.Path.{_≡_, _∙_, sym, ap}
+use mathlib.Core.Path.{_≡_, _∙_, refl, sym, ap}
 use mathlib.Core.Bool.{true}
 use mathlib.Core.List.{List}
 use Prim.Native.Nat.{ℕ, _<_}
@@ -12,17 +12,20 @@ use lib.Seq.{getD-set-same, getD-set-other}
 use lib.Dec.{ltb}
 use Rattle.table.specs.Sizes.{sized, spanned}
 use Rattle.table.specs.Order.{nondecreasing, suits}
-use Rattle.table.specs.Refusals.{granted}
+use Rattle.table.specs.Refusals.{granted, ifGranted}
 use Rattle.table.specs.declared.Density.{Density}
 use Rattle.table.specs.declared.Done.{Done}
 use Rattle.table.specs.declared.Refusal.{Refusal}
 use Rattle.table.specs.declared.Refusal.the-variants.{TableLength, NotNondecreasing, IndexBeyond, OutsideNeighbours}
 use Rattle.table.proofs.Refusals.{rung-granted}
-use Rattle.table.proofs.Answers.{same-done, doneBy, done-is, done-granted, done-refused}
+use Rattle.table.proofs.Answers.{same-done, doneBy, done-number, done-is, done-granted, done-refused}
 use Rattle.curve.specs.Ramp.{rampOf}
 use Rattle.curve.specs.Promises.{Sitting, sittingOn, startVerdict, StartPromise, acceptVerdict, AcceptPromise, nudgeVerdict, NudgePromise}
 
 -- Start.
+pub start-some : (n : ℕ) (s : Sitting) → StartPromise n s (doneBy (startVerdict n)) (sittingOn (ifGranted (startVerdict n) (rampOf n) (s .table)))
+start-some n s = record { number = done-number (startVerdict n); table = refl }
+
 module _ {n : ℕ} {s : Sitting} where
   pub start-one : {r q : Done} {s′ s″ : Sitting} → StartPromise n s r s′ → StartPromise n s q s″ → (r ≡ q) × (s′ ≡ s″)
   start-one {r} {q} a b = (same-done r q (a .number ∙ sym (b .number)), ap sittingOn (a .table ∙ sym (b .table)))
@@ -39,6 +42,9 @@ module _ {n : ℕ} {s : Sitting} where
   start-refused {why} a = ap sittingOn (a .table ∙ simp (done-refused (startVerdict n) why (a .number)))
 
 -- Accept.
+pub accept-some : (s : Sitting) → AcceptPromise s (doneBy (acceptVerdict s)) s
+accept-some s = record { number = done-number (acceptVerdict s); table = refl }
+
 module _ {s : Sitting} where
   pub accept-one : {r q : Done} {s′ s″ : Sitting} → AcceptPromise s r s′ → AcceptPromise s q s″ → (r ≡ q) × (s′ ≡ s″)
   accept-one {r} {q} a b = (same-done r q (a .number ∙ sym (b .number)), ap sittingOn (a .table ∙ sym (b .table)))
@@ -55,6 +61,9 @@ module _ {s : Sitting} where
       (w .0, rung-granted (nondecreasing (s .table)) NotNondecreasing granted (w .1) .0)
 
 -- Nudge.
+pub nudge-some : (s : Sitting) (i : ℕ) (v : Density) → NudgePromise s i v (doneBy (nudgeVerdict s i (v .0))) (sittingOn (ifGranted (nudgeVerdict s i (v .0)) (set (s .table) i (v .0)) (s .table)))
+nudge-some s i v = record { number = done-number (nudgeVerdict s i (v .0)); table = refl }
+
 -- what a granted nudge has shown of the table and the value
 pub record Nudgeable (t : List ℕ) (i v : ℕ) : Type 0 where
   pub size : sized (length t) ≡ true

@@ -23,6 +23,7 @@ up-le a b x pos =
     let i = div-lt-iff-lt-mul {k = b} {x = a + (b - 1)} {y = suc x} pos in
     ((λ l. omega (arith, i .0 (omega arith), suc-mul x b)), (λ l. le-of-suc-le-suc (i .1 (omega (arith, suc-mul x b)))))
 
+-- 65535 times an entry, parted at k
 parted : (a k : ℕ) → k ≤ 65535 → a * 65535 ≡ a * k + a * (65535 - k)
 parted a k h = ap (λ (n : ℕ). a * n) (sym (add-sub-of-le h)) ∙ mul-add a k (65535 - k)
 
@@ -37,63 +38,67 @@ weigh a b v k ab av h =
 abbrev pub cellSteps : List ℕ → ℕ → ℕ → ℕ
 cellSteps t v c = up ((v - getD t c 0) * 65535) (getD t (c + 1) 0 - getD t c 0)
 
+-- the lookup at q is at least v exactly if q is that many steps past entry c
+abbrev Reaches : List ℕ → ℕ → ℕ → ℕ → Type 0
+Reaches t v c q = (v ≤ lookedUp t q) ↔ (c * 65535 + cellSteps t v c ≤ steps (length t) q)
+
 module _ {t : List ℕ} {top v c : ℕ} (cell : Cell t top v c) where
   steps-are : (q : ℕ) → steps (length t) q ≡ q * top
   steps-are q =
       let last : length t - 1 ≡ top = omega arith in
       ap (λ (n : ℕ). q * n) last
 
+  rises : (i j : ℕ) → i ≤ j → j ≤ top → getD t i 0 ≤ getD t j 0
+  rises = searchable-rises (cell .table)
+
   -- at most a whole cell is stepped through
   pub steps-small : cellSteps t v c ≤ 65535
   steps-small = up-le ((v - getD t c 0) * 65535) (getD t (c + 1) 0 - getD t c 0) 65535 (omega arith) .1 (omega arith)
 
-  -- in the cell the steps decide,
-  in-cell : (q k : ℕ) → steps (length t) q ≡ c * 65535 + k → k ≤ 65535 → (v ≤ lookedUp t q) ↔ (cellSteps t v c ≤ k)
-  in-cell q k e h =
-      let r = lookup-reaches (entriesOf t) (length t) q v c k e h in
+  -- before the cell the lookup is at most entry c,
+  low : (q : ℕ) → steps (length t) q < c * 65535 → v ≤ lookedUp t q → ⊥
+  low q l r =
+      let i = steps (length t) q / 65535 in
+      let k = steps (length t) q % 65535 in
+      let e : steps (length t) q ≡ i * 65535 + k = sym (div-add-mod' (steps (length t) q) 65535) in
+      let m : k < 65535 = mod-lt (steps (length t) q) (lit< tt) in
+      let h : k ≤ 65535 = omega arith in
+      let j : i < c = div-lt-iff-lt-mul (lit< tt) .1 l in
+      let sum = lookup-reaches (entriesOf t) (length t) q v i k e h .0 r in
+      omega (
+        arith,
+        parted (getD t c 0) k h,
+        mul-le-mul-right k (rises (i + 1) c (omega arith) (omega arith)),
+        mul-le-mul-right (65535 - k) (rises i c (omega arith) (omega arith)),
+      )
+
+  before : (q : ℕ) → steps (length t) q < c * 65535 → Reaches t v c q
+  before q l = ((λ r. absurd (low q l r)), (λ r. absurd (omega arith)))
+
+  -- in it the steps decide,
+  within : (q : ℕ) → c * 65535 ≤ steps (length t) q → steps (length t) q < (c + 1) * 65535 → Reaches t v c q
+  within q g l =
+      let k = steps (length t) q - c * 65535 in
+      let h : k ≤ 65535 = omega arith in
+      let r = lookup-reaches (entriesOf t) (length t) q v c k (sym (add-sub-of-le g)) h in
       let w = weigh (getD t c 0) (getD t (c + 1) 0) v k (omega arith) (omega arith) h in
       let u = up-le ((v - getD t c 0) * 65535) (getD t (c + 1) 0 - getD t c 0) k (omega arith) in
-      ((λ l. u .1 (w .0 (r .0 l))), (λ l. r .1 (w .1 (u .0 l))))
+      ((λ l. omega (arith, u .1 (w .0 (r .0 l)))), (λ l. r .1 (w .1 (u .0 (omega arith)))))
 
-  -- past it the lookup is at least the next entry,
-  past-cell : (q : ℕ) → q ≤ 65535 → (c + 1) * 65535 ≤ steps (length t) q → v ≤ lookedUp t q
-  past-cell q h l =
-      let from : c + 1 ≤ steps (length t) q / 65535 = le-div-iff-mul-le (lit< tt) .1 l in
-      let to : steps (length t) q / 65535 ≤ top = div-le-of-le-mul 65535 (omega (arith, steps-are q, mul-le-mul-right top h)) in
-      le-trans (cell .reached) (le-trans (searchable-rises (cell .table) (c + 1) (steps (length t) q / 65535) from to) (table-obeys (cell .table .passed) .not-below q h))
+  -- and past it the lookup is at least the next entry
+  past : (q : ℕ) → q ≤ 65535 → (c + 1) * 65535 ≤ steps (length t) q → Reaches t v c q
+  past q h l =
+      let i = steps (length t) q / 65535 in
+      let from : c + 1 ≤ i = le-div-iff-mul-le (lit< tt) .1 l in
+      let to : i ≤ top = div-le-of-le-mul 65535 (omega (arith, steps-are q, mul-le-mul-right top h)) in (
+        (λ r. omega (arith, steps-small)),
+        (λ r. le-trans (cell .reached) (le-trans (rises (c + 1) i from to) (table-obeys (cell .table .passed) .not-below q h))),
+      )
 
-  -- and before it at most entry c
-  before-cell : (q : ℕ) → steps (length t) q < c * 65535 → lookedUp t q < v
-  before-cell q l = ⊎-elim (λ m. m) over (below? (lookedUp t q) v)
-    where
-      over : v ≤ lookedUp t q → lookedUp t q < v
-      over r =
-          let i = steps (length t) q / 65535 in
-          let k = steps (length t) q % 65535 in
-          let e : steps (length t) q ≡ i * 65535 + k = sym (div-add-mod' (steps (length t) q) 65535) in
-          let m : k < 65535 = mod-lt (steps (length t) q) (lit< tt) in
-          let h : k ≤ 65535 = omega arith in
-          let j : i < c = div-lt-iff-lt-mul (lit< tt) .1 l in
-          let sum = lookup-reaches (entriesOf t) (length t) q v i k e h .0 r in
-          absurd (omega (arith, parted (getD t c 0) k h, mul-le-mul-right k (searchable-rises (cell .table) (i + 1) c (omega arith) (omega arith)), mul-le-mul-right (65535 - k) (searchable-rises (cell .table) i c (omega arith) (omega arith))))
-
-  reaches : (q : ℕ) → q ≤ 65535 → (v ≤ lookedUp t q) ↔ (c * 65535 + cellSteps t v c ≤ steps (length t) q)
-  reaches q h = ⊎-elim before after (below? (steps (length t) q) (c * 65535))
-    where
-      before : steps (length t) q < c * 65535 → (v ≤ lookedUp t q) ↔ (c * 65535 + cellSteps t v c ≤ steps (length t) q)
-      before l = ((λ r. absurd (omega (arith, before-cell q l))), (λ r. absurd (omega arith)))
-
-      after : c * 65535 ≤ steps (length t) q → (v ≤ lookedUp t q) ↔ (c * 65535 + cellSteps t v c ≤ steps (length t) q)
-      after g = ⊎-elim inside past (below? (steps (length t) q) ((c + 1) * 65535))
-        where
-          inside : steps (length t) q < (c + 1) * 65535 → (v ≤ lookedUp t q) ↔ (c * 65535 + cellSteps t v c ≤ steps (length t) q)
-          inside l =
-              let k = steps (length t) q - c * 65535 in
-              let i = in-cell q k (sym (add-sub-of-le g)) (omega arith) in
-              ((λ r. omega (arith, i .0 r)), (λ r. i .1 (omega arith)))
-
-          past : (c + 1) * 65535 ≤ steps (length t) q → (v ≤ lookedUp t q) ↔ (c * 65535 + cellSteps t v c ≤ steps (length t) q)
-          past l = ((λ r. omega (arith, steps-small)), (λ r. past-cell q h l))
+  reaches : (q : ℕ) → q ≤ 65535 → Reaches t v c q
+  reaches q h =
+      ⊎-elim (before q) (λ g. ⊎-elim (within q g) (past q h) (below? (steps (length t) q) ((c + 1) * 65535)))
+      (below? (steps (length t) q) (c * 65535))
 
   exact : (q : ℕ) → q ≤ 65535 → (v ≤ lookedUp t q) ↔ (up (c * 65535 + cellSteps t v c) top ≤ q)
   exact q h =
@@ -104,6 +109,7 @@ module _ {t : List ℕ} {top v c : ℕ} (cell : Cell t top v c) where
   pub cell-inside : up (c * 65535 + cellSteps t v c) top ≤ 65535
   cell-inside = up-le (c * 65535 + cellSteps t v c) top 65535 (omega arith) .1 (omega (arith, steps-small))
 
+  -- so many positions make that many steps
   pub cell-least : leastOf (lookedUp t) v ≡ up (c * 65535 + cellSteps t v c) top
   cell-least =
       least-only (lookedUp t) v (table-rises (cell .table .passed)) (up (c * 65535 + cellSteps t v c) top)

@@ -1,5 +1,5 @@
--- Each promise names one answer and one later state of its buffer, refused calls too; what a promise tells by the table and the value; and that a row holds,
--- entry by entry, what the single call answers. Whatever is lent or asked, an empty table, one of 65,537 entries, a falling one, any value: there is one
+-- Each promise is met (`least-some`, `least-row-some`), and names one answer and one later state of its buffer, refused calls too; what it tells by the table and
+-- the value; and that a row holds, entry by entry, what the single call answers. Whatever is lent or asked, an empty table, one of 65,537 entries, a falling one, any value: there is one
 -- numbered answer (`least-answer`, `least-row-answer`), and a refused row leaves its buffer as it was (`least-row-refused`).
 -- Assumes nothing.
 use mathlib.Core.Path.{_≡_, _∙_, refl, sym, ap}
@@ -20,7 +20,7 @@ use Rattle.table.specs.declared.Refusal.{Refusal}
 use Rattle.table.specs.declared.Refusal.the-variants.{TableLength, NotNondecreasing, AboveLast, OutputLength}
 use Rattle.table.proofs.Choice.{below?}
 use Rattle.table.proofs.Refusals.{rung-granted}
-use Rattle.table.proofs.Answers.{same-done, same-sought, doneBy, done-is, done-granted, done-refused, soughtBy, sought-is}
+use Rattle.table.proofs.Answers.{same-done, same-sought, doneBy, done-number, done-is, done-granted, done-refused, soughtBy, sought-number, sought-value, sought-is}
 use Rattle.table.proofs.Fill.{getD-tabulated}
 use Rattle.lookup.specs.Lookup.{lookedUp}
 use Rattle.least.specs.Least.{leastOf}
@@ -29,6 +29,9 @@ use Rattle.least.specs.Promises.{lastEntry, leastVerdict, LeastPromise, 
 use Rattle.least.proofs.Tables.{table-inside}
 
 -- The single call.
+pub least-some : (t : List ℕ) (v : Density) → LeastPromise t v (soughtBy (leastVerdict t (v .0)) (leastOf (lookedUp t) (v .0)))
+least-some t v = record { number = sought-number (leastVerdict t (v .0)) _; value = sought-value (leastVerdict t (v .0)) _ }
+
 module _ {t : List ℕ} {v : Density} where
   pub least-one : {r q : Sought} → LeastPromise t v r → LeastPromise t v q → r ≡ q
   least-one {r} {q} a b = same-sought r q (a .number ∙ sym (b .number)) (a .value ∙ sym (b .value))
@@ -44,6 +47,9 @@ module _ {t : List ℕ} {v : Density} where
   least-above s h a = least-answer a ∙ simp (s .size, s .order, lt-leb _ _ h)
 
 -- The row.
+pub least-row-some : (t values out : List ℕ) → LeastRowPromise t values out (doneBy (leastRowVerdict t values out)) (ifGranted (leastRowVerdict t values out) (leastRowOf t values) out)
+least-row-some t values out = record { number = done-number (leastRowVerdict t values out); after = refl }
+
 module _ {t values out : List ℕ} where
   pub least-row-one : {r q : Done} {out′ out″ : List ℕ} → LeastRowPromise t values out r out′ → LeastRowPromise t values out q out″ → (r ≡ q) × (out′ ≡ out″)
   least-row-one {r} {q} a b = (same-done r q (a .number ∙ sym (b .number)), a .after ∙ sym (b .after))

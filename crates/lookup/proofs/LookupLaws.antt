@@ -1,4 +1,5 @@
--- The laws of the 16-bit lookup. On any source of entries: it lies between its two entries, is exact on an entry, and depends on those two alone.
+-- The laws of the 16-bit lookup. On any source of entries: it lies between its two entries, is exact on an entry, depends on those two alone, and reaches
+-- a value exactly if they do, weighed.
 -- On a nondecreasing one: it never falls as the position rises. A baked table answers as the table does.
 -- Assumes nothing.
 use mathlib.Core.Path.{_≡_, _∙_, ap, sym, subst}

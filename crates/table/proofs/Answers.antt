@@ -53,6 +53,13 @@ abbrev pub soughtBy : Verdict → ℕ → Sought
 soughtBy granted p = Sought.At (record { 0 = p })
 soughtBy (refused why) p = Sought.Refused why
 
+pub sought-number : (w : Verdict) (p : ℕ) → numberOfSought (soughtBy w p) ≡ numberIn w
+sought-number granted p = refl
+sought-number (refused why) p = refl
+
+pub sought-value : (w : Verdict) (p : ℕ) → valueOfSought (soughtBy w p) ≡ ifGranted w p 0
+sought-value granted p = refl
+sought-value (refused why) p = refl
+
 pub sought-is : {r : Sought} (w : Verdict) (p : ℕ) → numberOfSought r ≡ numberIn w → valueOfSought r ≡ ifGranted w p 0 → r ≡ soughtBy w p
-sought-is {r} granted p n v = same-sought r (Sought.At (record { 0 = p })) n v
-sought-is {r} (refused why) p n v = same-sought r (Sought.Refused why) n v
+sought-is {r} w p n v = same-sought r (soughtBy w p) (n ∙ sym (sought-number w p)) (v ∙ sym (sought-value w p))

@@ -4,6 +4,7 @@ use mathlib.Core.Bool.{true}
 use borrow.Author.Needs.{needs}
 use borrow.Author.Tests.{lt-ltb, le-ltb}
 use lib.ListN.{length}
+use lib.Dec.{ltb}
 use denote.Ref.{now}
 use Rattle.table.specs.Sizes.{sized}
 use Rattle.table.specs.Order.{nondecreasing}
@@ -14,8 +15,11 @@ use Rattle.curve.proofs.nudge.Tie as tie
 size-ok : (c : tie.Else1) → sized (length (now (c .before .before .before .args .table))) ≡ true
 size-ok c = holds (c .before .sized .ensures) (c .if1 .left)
 
-order-ok : (c : tie.Else3) → nondecreasing (now (c .before .before .before .before .before .before .before .args .table)) ≡ true
-order-ok c = holds (c .before .in-order .ensures) (c .if3 .left)
+-- the first three rungs, once they are passed
+passed : (c : tie.Else3) → let a = c .before .before .before .before .before .before .before .args in (sized (length (now (a .table))) ≡ true) × (ltb (a .i) (length (now (a .table))) ≡ true) × (nondecreasing (now (a .table)) ≡ true)
+passed c =
+    let e = c .before .before .before in
+    (size-ok (e .before), lt-ltb _ _ (e .if2 .left), holds (c .before .in-order .ensures) (c .if3 .left))
 
 sized-requires : tie.Need-sized-requires
 sized-requires c κs = search needs
@@ -56,13 +60,9 @@ same-length-2 c = search needs
 
 returns-4 : tie.Need-returns-4
 returns-4 c =
-    let d = c .before .before .before .before in
-    let e = d .before .before .before in
-    let a = size-ok (e .before) in
-    let b = lt-ltb _ _ (e .if2 .left) in
-    let o = order-ok d in
+    let p = passed (c .before .before .before .before) in
     let f = rw (c .before .before .wide .ensures .0) at (fails (c .before .suits .ensures) (c .if4 .taken)) in
-    record { number = simp (a, b, o, f); table = simp (a, b, o, f) }
+    record { number = simp (p .0, p .1, p .2, f); table = simp (p .0, p .1, p .2, f) }
 
 mul-table : tie.Need-mul-table
 mul-table c = search needs
@@ -75,13 +75,9 @@ same-length-3 c = search needs
 
 returns-5 : tie.Need-returns-5
 returns-5 c =
-    let d = c .before .before .before .before in
-    let e = d .before .before .before in
-    let a = size-ok (e .before) in
-    let b = lt-ltb _ _ (e .if2 .left) in
-    let o = order-ok d in
+    let p = passed (c .before .before .before .before) in
     let h = rw (c .before .before .wide .ensures .0) at (holds (c .before .suits .ensures) (c .if4 .left)) in
-    record { number = simp (a, b, o, h); table = simp (a, b, o, h) }
+    record { number = simp (p .0, p .1, p .2, h); table = simp (p .0, p .1, p .2, h) }
 
 pub nudge-spec : {M : Type 1} → statement M
 nudge-spec =
