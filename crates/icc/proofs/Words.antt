@@ -1,12 +1,12 @@
 -- Numbers written one after the other and read back, stated once over how wide a number is. Assumes nothing.
 use mathlib.Core.Path.{_≡_, _∙_, refl, sym, ap}
 use mathlib.Core.List.{List, [], _∷_, _++_, append-assoc, append-nil}
-use Prim.Native.Nat.{ℕ, zero, suc, _+_, _*_, _≤_, _<_}
+use Prim.Native.Nat.{ℕ, zero, suc, _+_, _*_, _≤_, _<_, zero-le}
 use native.Mathlib.Nat.{add-zero, mul-zero, mul-suc, mul-add, mul-le-mul-left, le-of-suc-le-suc, not-suc-le-zero}
 use native.Mathlib.Numerals.{add-one}
 use native.Mathlib.Omega.{arith}
 use lib.ListN.{length, getD, take, drop, length-append}
-use lib.Seq.{sets, take-add, take-suc, drop-drop, ext-getD}
+use lib.Seq.{sets, length-sets, take-add, take-all, take-suc, drop-drop, ext-getD}
 use Rattle.table.specs.Fill.{tabulated}
 use Rattle.table.proofs.Fill.{length-tabulated, getD-tabulated}
 use Rattle.icc.specs.Bytes.{EightBits, be16, be32, bytes16, bytes32}
@@ -75,13 +75,35 @@ module _ {wide : ℕ} {be : List ℕ → ℕ → ℕ} {bytes : ℕ → List ℕ}
       ∙ ap (λ (l : List ℕ). take (wide * n) (drop k b) ++ take wide l) (sym (drop-drop (wide * n) k b))
       ∙ sym (ap (λ (m : ℕ). take m (drop k b)) more ∙ take-add (wide * n) wide (drop k b))
 
-  -- A buffer that holds `first` and then the first i numbers of l, at k + wide * i, holds one more once that is stored.
-  pub word-stored : (first l out : List ℕ) (k i : ℕ) → i < length l → k + wide * length l ≤ length out
-      → take (k + wide * i) out ≡ first ++ inTurn bytes (take i l)
-      → take (k + wide * (i + 1)) (sets out (k + wide * i) (bytes (getD l i 0))) ≡ first ++ inTurn bytes (take (i + 1) l)
-  word-stored first l out k i h room held =
-      let x = getD l i 0 in
-      let next : k + wide * i + length (bytes x) ≡ k + wide * (i + 1) = omega (arith, form .long x, mul-add wide i 1) in
-      let within : i + 1 ≤ length l = omega arith in
-      take-sets out (k + wide * i) (bytes x) (k + wide * (i + 1)) next (omega (arith, mul-le-mul-left wide within))
-      ∙ rw (held, ← words-one x, append-assoc first (inTurn bytes (take i l)) (inTurn bytes (x ∷ [])), ← words-append (take i l) (x ∷ []), add-one i, take-suc l i 0 h) refl
+  -- The invariant of a loop that stores the numbers l after the first k bytes of a buffer, one at each turn: after i turns the buffer begins with those
+  -- bytes and the first i numbers. A loop's proof needs these laws of it and nothing else.
+  pub record Storing (l old : List ℕ) (k i : ℕ) (buffer : List ℕ) : Type 0 where
+    pub inside : i ≤ length l
+    pub size : length buffer ≡ length old
+    pub holds : take (k + wide * i) buffer ≡ take k old ++ inTurn bytes (take i l)
+
+  pub storing-start : (l old : List ℕ) (k : ℕ) → Storing l old k 0 old
+  unfolding inTurn
+  storing-start l old k = record { inside = zero-le; size = refl; holds = rw (mul-zero wide, add-zero k) (sym (append-nil (take k old))) }
+
+  module _ {l old : List ℕ} {k i : ℕ} {buffer : List ℕ} (s : Storing l old k i buffer) (room : length old ≡ k + wide * length l) where
+    pub storing-more : {later : List ℕ} → i < length l → later ≡ sets buffer (k + wide * i) (bytes (getD l i 0)) → Storing l old k (i + 1) later
+    storing-more {later} h e =
+        let x = getD l i 0 in
+        let within : i + 1 ≤ length l = omega arith in
+        let next : k + wide * i + length (bytes x) ≡ k + wide * (i + 1) = omega (arith, form .long x, mul-add wide i 1) in
+        let stored : take (k + wide * (i + 1)) (sets buffer (k + wide * i) (bytes x)) ≡ take (k + wide * i) buffer ++ bytes x
+        = take-sets buffer (k + wide * i) (bytes x) (k + wide * (i + 1)) next (omega (arith, s .size, mul-le-mul-left wide within)) in
+        record {
+          inside = within;
+          size = ap length e ∙ length-sets buffer (k + wide * i) (bytes x) ∙ s .size;
+          holds =
+              ap (take (k + wide * (i + 1))) e
+              ∙ stored
+              ∙ rw (s .holds, ← words-one x, append-assoc (take k old) (inTurn bytes (take i l)) (inTurn bytes (x ∷ [])), ← words-append (take i l) (x ∷ []), add-one i, take-suc l i 0 h) refl;
+        }
+
+    pub storing-done : length l ≤ i → buffer ≡ take k old ++ inTurn bytes l
+    storing-done h =
+        let all : length buffer ≤ k + wide * i = omega (arith, s .size, mul-le-mul-left wide h) in
+        sym (take-all (k + wide * i) buffer all) ∙ s .holds ∙ ap (λ (t : List ℕ). take k old ++ inTurn bytes t) (take-all i l h)
