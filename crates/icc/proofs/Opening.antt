@@ -14,7 +14,7 @@ use Rattle.table.specs.Choice.{both}
 use Rattle.table.proofs.Choice.{both-left, both-right}
 use Rattle.icc.specs.Opening.{stands, signedBy, reservedZero, opening}
 
-both-true : (t : Bool) → both t true ≡ t
+pub both-true : (t : Bool) → both t true ≡ t
 both-true true = refl
 both-true false = refl
 

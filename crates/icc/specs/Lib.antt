@@ -1,3 +1,4 @@
--- `Bytes`: big-endian numbers. `Opening`: how a tag begins.
+-- `Bytes`: big-endian numbers. `Words`: numbers one after the other. `Opening`: how a tag begins.
 pub mod Bytes
+pub mod Words
 pub mod Opening

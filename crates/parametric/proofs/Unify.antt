@@ -48,7 +48,7 @@ others-are-refused l a b c d e =
     let h = not-counted (length l) a b c d e in
     record { number = simp h; value = simp h }
 
-same-unified : (r s : Unified) → numberOfUnified r ≡ numberOfUnified s → valueOfUnified r ≡ valueOfUnified s → r ≡ s
+pub same-unified : (r s : Unified) → numberOfUnified r ≡ numberOfUnified s → valueOfUnified r ≡ valueOfUnified s → r ≡ s
 same-unified (Unified.Curve a) (Unified.Curve b) e v = ap Unified.Curve v
 same-unified (Unified.Curve a) (Unified.Refused b) e v = absurd (omega (arith, number-above b))
 same-unified (Unified.Refused a) (Unified.Curve b) e v = absurd (omega (arith, number-above a))

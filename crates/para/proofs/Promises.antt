@@ -1,0 +1,147 @@
+-- How each promise is met, case by case; what an answer that keeps it tells; and that it names one answer and one later state. Assumes nothing.
+use mathlib.Core.Path.{_≡_, _∙_, refl, sym, ap}
+use mathlib.Core.Bool.{Bool, true, false}
+use mathlib.Core.List.{List, map, _++_}
+use Prim.Native.Nat.{ℕ, _<_, _≤_}
+use native.Mathlib.Omega.{arith}
+use borrow.Author.Tests.{le-leb, lt-leb, eq-eqb, ne-eqb, leb-true, eqb-true}
+use lib.ListN.{length, take}
+use lib.Ieee.{Float}
+use Rattle.table.specs.Fill.{tabulated}
+use Rattle.table.specs.Refusals.{numberOf, Verdict, granted, refused, rung, numberIn}
+use Rattle.table.specs.declared.Done.{Done}
+use Rattle.table.specs.declared.Refusal.{Refusal}
+use Rattle.table.specs.declared.Refusal.the-variants.{OutputLength, ParameterCount, FunctionType}
+use Rattle.table.proofs.Fill.{length-tabulated}
+use Rattle.table.proofs.Refusals.{same-refusal, number-above, same-verdict, rung-granted}
+use Rattle.table.proofs.Answers.{same-done}
+use Rattle.icc.specs.Bytes.{bytes32}
+use Rattle.icc.specs.Words.{inTurn}
+use Rattle.parametric.specs.declared.Unified.{Unified}
+use Rattle.parametric.specs.Unify.{counted}
+use Rattle.parametric.specs.Promises.{numberOfUnified, NewPromise}
+use Rattle.parametric.proofs.Unify.{same-unified}
+use Rattle.para.specs.declared.Numbers.{Numbers}
+use Rattle.para.specs.declared.Read.{Read}
+use Rattle.para.specs.Answers.{numberOfRead, countOfRead, numbersOfRead}
+use Rattle.para.specs.Tag.{typeOf, countOf, tagLength, listed, used, rawAt, numbersOf, head, patterns, tagOf}
+use Rattle.para.specs.Promises.{tagVerdict, ReadPromise, nearest, CurvePromise, writeVerdict, WritePromise}
+use Rattle.para.proofs.Counts.{count-most, count-counted}
+use Rattle.para.proofs.Places.{first-used}
+use Rattle.para.proofs.Checks.{readable}
+
+-- a tag that is granted, and has the n numbers m
+pub record Granted (b : List ℕ) (n : ℕ) (m : Numbers) : Type 0 where
+  pub verdict : tagVerdict b ≡ granted
+  pub known : typeOf b ≤ 4
+  pub count : n ≡ countOf (typeOf b)
+  pub numbers : m ≡ numbersOf b
+  pub most : n ≤ 7
+
+-- Reading.
+module _ (b : List ℕ) where
+  pub read-refused : (why : Refusal) → tagVerdict b ≡ refused why → ReadPromise b (Read.Refused why)
+  read-refused why e = record { number = simp e; count = simp e; numbers = simp e }
+
+  -- t being the type as it was read, and n the count that it has
+  pub read-granted : {t n : ℕ} {m : Numbers} → tagVerdict b ≡ granted → t ≡ typeOf b → n ≡ countOf t → m ≡ used n (rawAt b) → ReadPromise b (Read.Parameters n m)
+  unfolding numbersOf
+  read-granted e read c v =
+      let count = c ∙ ap countOf read in
+      record { number = simp e; count = simp e count; numbers = simp e (v ∙ ap (λ (n : ℕ). used n (rawAt b)) count) }
+
+  -- what the answer r of a reading tells
+  module _ (r : Read) (p : ReadPromise b r) where
+    pub refused-read : (why : Refusal) → r ≡ Read.Refused why → tagVerdict b ≡ refused why
+    refused-read why e = sym (same-verdict (refused why) (tagVerdict b) (ap numberOfRead (sym e) ∙ p .number))
+
+    pub granted-read : (n : ℕ) (m : Numbers) → r ≡ Read.Parameters n m → Granted b n m
+    granted-read n m e =
+        let g : tagVerdict b ≡ granted = sym (same-verdict granted (tagVerdict b) (ap numberOfRead (sym e) ∙ p .number)) in
+        let c : n ≡ countOf (typeOf b) = ap countOfRead (sym e) ∙ simp g at (p .count) in
+        let v : m ≡ numbersOf b = ap numbersOfRead (sym e) ∙ simp g at (p .numbers) in
+        let ok = readable b g in
+        record { verdict = g; known = ok .known; count = c; numbers = v; most = omega (arith, count-most (typeOf b) (ok .known)) }
+
+-- Reading as a curve.
+module _ (b : List ℕ) where
+  pub curve-refused : (why : Refusal) → tagVerdict b ≡ refused why → CurvePromise b (Unified.Refused why)
+  curve-refused why e = record { number = simp e; value = simp e }
+
+  -- the floats that the curve is unified from are those of the numbers that are read
+  pub floats-read : {n : ℕ} {m : Numbers} → Granted b n m → take n (map nearest (listed m)) ≡ tabulated (λ k. nearest (rawAt b k)) (countOf (typeOf b))
+  unfolding numbersOf
+  floats-read g = rw (g .numbers, g .count) (first-used nearest (countOf (typeOf b)) (rawAt b) (count-most (typeOf b) (g .known)))
+
+  -- and a curve may have so many, so that nothing is refused but the tag
+  pub curve-granted : {n : ℕ} {m : Numbers} {r : Unified} → Granted b n m → NewPromise (take n (map nearest (listed m))) r → CurvePromise b r
+  curve-granted {n} {m} g p =
+      let params = tabulated (λ k. nearest (rawAt b k)) (countOf (typeOf b)) in
+      let many : counted (length params) ≡ true
+      = ap counted (length-tabulated (λ k. nearest (rawAt b k)) (countOf (typeOf b))) ∙ count-counted (typeOf b) (g .known) in
+      let q : NewPromise params _ = rw (floats-read g) at p in
+      record { number = simp (g .verdict) (simp many at (q .number)); value = simp (g .verdict) (simp many at (q .value)) }
+
+-- a refusal that a rung does not give comes from those after it
+past : (test : Bool) (why : Refusal) (rest : Verdict) → rung test why rest ≡ refused ParameterCount → (numberOf why ≡ 7 → ⊥) → rest ≡ refused ParameterCount
+past true why rest e n = e
+past false why rest e n = absurd (n (ap numberIn e))
+
+-- 7, for a count that no curve has, cannot arise
+pub never-miscounted : {b : List ℕ} {r : Unified} → CurvePromise b r → numberOfUnified r ≡ 7 → ⊥
+unfolding tagVerdict
+never-miscounted {b} p seven =
+    let e : tagVerdict b ≡ refused ParameterCount = same-verdict (tagVerdict b) (refused ParameterCount) (sym (p .number) ∙ seven) in
+    let f = past _ _ _ e (λ s. omega arith) in
+    let g = past _ _ _ f (λ s. omega arith) in
+    let h = past _ _ _ g (λ s. omega arith) in
+    let i = past _ _ _ h (λ s. omega arith) in
+    let j = past _ _ _ i (λ s. omega arith) in
+    let k = past _ _ _ j (λ s. omega arith) in
+    omega (arith, ap numberIn k)
+
+-- Writing.
+module _ (t : ℕ) (m : Numbers) (out : List ℕ) where
+  write-refusal : (why : Refusal) → writeVerdict t out ≡ refused why → WritePromise t m out (Done.Refused why) out
+  write-refusal why e = record { number = simp e; after = simp e }
+
+  pub write-untyped : 4 < t → WritePromise t m out (Done.Refused FunctionType) out
+  write-untyped h = write-refusal FunctionType (rw (lt-leb _ _ h) refl)
+
+  pub write-misfit : t ≤ 4 → (length out ≡ tagLength (countOf t) → ⊥) → WritePromise t m out (Done.Refused OutputLength) out
+  write-misfit h n = write-refusal OutputLength (rw (le-leb _ _ h, ne-eqb _ _ n) refl)
+
+  pub write-granted : {out′ : List ℕ} → t ≤ 4 → length out ≡ tagLength (countOf t) → out′ ≡ tagOf t m → WritePromise t m out Done.Yes out′
+  write-granted h e f =
+      let g : writeVerdict t out ≡ granted = rw (le-leb _ _ h, eq-eqb _ _ e) refl in
+      record { number = simp g; after = simp g f }
+
+  -- n being the count that t has, by a head and the numbers after it
+  pub write-done : {first out′ : List ℕ} {n : ℕ} → t ≤ 4 → n ≡ countOf t → length out ≡ tagLength n
+      → first ≡ head t → out′ ≡ first ++ inTurn bytes32 (take n (patterns m)) → WritePromise t m out Done.Yes out′
+  write-done {n = n} h count room f e =
+      write-granted h (room ∙ ap tagLength count)
+      (e
+      ∙ ap (λ (l : List ℕ). l ++ inTurn bytes32 (take n (patterns m))) f
+      ∙ ap (λ (k : ℕ). head t ++ inTurn bytes32 (take k (patterns m))) count)
+
+  pub granted-write : {out′ : List ℕ} → WritePromise t m out Done.Yes out′ → (t ≤ 4) × (out′ ≡ tagOf t m)
+  granted-write p =
+      let g : writeVerdict t out ≡ granted = sym (same-verdict granted (writeVerdict t out) (p .number)) in
+      (leb-true _ _ (rung-granted _ _ _ g .0), simp g at (p .after))
+
+-- A promise names one answer and one later state.
+same-read : (r s : Read) → numberOfRead r ≡ numberOfRead s → countOfRead r ≡ countOfRead s → numbersOfRead r ≡ numbersOfRead s → r ≡ s
+same-read (Read.Parameters n m) (Read.Parameters i j) e c v = cc
+same-read (Read.Parameters n m) (Read.Refused b) e c v = absurd (omega (arith, number-above b))
+same-read (Read.Refused a) (Read.Parameters n m) e c v = absurd (omega (arith, number-above a))
+same-read (Read.Refused a) (Read.Refused b) e c v = ap Read.Refused (same-refusal a b e)
+
+pub read-one : {b : List ℕ} {r s : Read} → ReadPromise b r → ReadPromise b s → r ≡ s
+read-one {b} {r} {s} p q = same-read r s (p .number ∙ sym (q .number)) (p .count ∙ sym (q .count)) (p .numbers ∙ sym (q .numbers))
+
+pub curve-one : {b : List ℕ} {r s : Unified} → CurvePromise b r → CurvePromise b s → r ≡ s
+curve-one {b} {r} {s} p q = same-unified r s (p .number ∙ sym (q .number)) (p .value ∙ sym (q .value))
+
+pub write-one : {t : ℕ} {m : Numbers} {out out′ out″ : List ℕ} {r s : Done} → WritePromise t m out r out′ → WritePromise t m out s out″ → (r ≡ s) × (out′ ≡ out″)
+write-one {r = r} {s = s} p q = (same-done r s (p .number ∙ sym (q .number)), p .after ∙ sym (q .after))

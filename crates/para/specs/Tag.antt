@@ -1,0 +1,74 @@
+-- The para tag of ICC.1, byte by byte: 70 61 72 61 (hexadecimal), four zero bytes, a 16-bit function type t, two zero bytes, then 1, 3, 4, 5 or 7
+-- signed 16.16 numbers for t = 0 to 4. Assumes nothing.
+use Prim.Native.Nat.{ℕ, _+_, _*_, _<_}
+use mathlib.Core.Bool.{Bool}
+use mathlib.Core.List.{List, [], _∷_, _++_, map}
+use lib.ListN.{getD, take}
+use lib.Dec.{eqb, ltb}
+use lib.IntN.{ℤ, pos}
+use lib.Signed.{mag}
+use Rattle.table.specs.Choice.{pick}
+use Rattle.icc.specs.Bytes.{be16, be32, bytes16, bytes32}
+use Rattle.icc.specs.Words.{inTurn}
+use Rattle.icc.specs.Opening.{stands, signedBy, opening}
+use Rattle.para.specs.declared.Numbers.{Numbers}
+use Rattle.para.specs.Signed.{signedOf, patternOf}
+
+-- the signature
+abbrev pub isPara : List ℕ → Bool
+isPara b = signedBy 112 97 114 97 b
+
+-- the function type, at byte 8
+abbrev pub typeOf : List ℕ → ℕ
+typeOf b = be16 b 8
+
+-- bytes 10 and 11, the reserved ones after it, are zero
+abbrev pub typeZeros : List ℕ → Bool
+typeZeros b = stands b 10 (0 ∷ 0 ∷ [])
+
+-- how many numbers a function type has
+unfoldable pub countOf : ℕ → ℕ
+countOf t = getD (1 ∷ 3 ∷ 4 ∷ 5 ∷ 7 ∷ []) t 0
+
+-- 12 plus four bytes for each of n numbers
+abbrev pub tagLength : ℕ → ℕ
+tagLength n = 12 + 4 * n
+
+-- which totals a tag of n numbers may have: exactly that
+unfoldable pub total : ℕ → ℕ → Bool
+total n len = eqb len (tagLength n)
+
+-- Seven numbers, from the number at each place and as a list.
+abbrev pub seven : (ℕ → ℤ) → Numbers
+seven at = record { g = at 0; a = at 1; b = at 2; c = at 3; d = at 4; e = at 5; f = at 6 }
+
+abbrev pub listed : Numbers → List ℤ
+listed m = m .g ∷ m .a ∷ m .b ∷ m .c ∷ m .d ∷ m .e ∷ m .f ∷ []
+
+abbrev pub placed : Numbers → ℕ → ℤ
+placed m k = getD (listed m) k (pos 0)
+
+-- every one is 32 bits wide
+abbrev pub SignedBits : Numbers → Type 0
+SignedBits m = (k : ℕ) → mag (placed m k) < 0x8000_0000
+
+-- of the numbers at each place the first n, the others being 0
+abbrev pub used : ℕ → (ℕ → ℤ) → Numbers
+used n at = seven (λ k. pick (ltb k n) (at k) (pos 0))
+
+-- What a tag holds: raw number k, the four bytes at 12 + 4k; and as many as its type has.
+unfoldable pub rawAt : List ℕ → ℕ → ℤ
+rawAt b k = signedOf (be32 b (12 + 4 * k))
+
+unfoldable pub numbersOf : List ℕ → Numbers
+numbersOf b = used (countOf (typeOf b)) (rawAt b)
+
+-- What is written for a type and seven numbers: the first twelve bytes, and four for each number that the type has. The others are ignored.
+unfoldable pub head : ℕ → List ℕ
+head t = opening 112 97 114 97 ++ (bytes16 t ++ (0 ∷ 0 ∷ []))
+
+abbrev pub patterns : Numbers → List ℕ
+patterns m = map patternOf (listed m)
+
+abbrev pub tagOf : ℕ → Numbers → List ℕ
+tagOf t m = head t ++ inTurn bytes32 (take (countOf t) (patterns m))
