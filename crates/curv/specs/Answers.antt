@@ -1,4 +1,4 @@
--- The paper's number and value for each case of a count's answer. Assumes nothing.
+-- Document 01's number and value for each case of a count's answer. Assumes nothing.
 use Prim.Native.Nat.{ℕ}
 use Rattle.table.specs.Refusals.{numberOf}
 use Rattle.curv.specs.declared.Counted.{Counted}

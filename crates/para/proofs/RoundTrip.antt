@@ -49,8 +49,8 @@ module _ (b : List ℕ) (w : EightBits b) (ok : Readable b) where
       ∙ ap (λ (l : List ℕ). take 2 (drop 8 b) ++ l) (sym (stands-bytes b 10 (0 ∷ 0 ∷ []) (omega arith) (ok .opened .after)))
       ∙ ap (λ (l : List ℕ). take 2 (drop 8 b) ++ take 2 l) (sym (drop-drop 2 8 b))
       ∙ sym (take-add 2 2 (drop 8 b)) in
-      ap (λ (l : List ℕ). opening 112 97 114 97 ++ l) type
-      ∙ ap (λ (l : List ℕ). l ++ take 4 (drop 8 b)) (sym (opens 112 97 114 97 b (omega arith) (ok .opened .signed) (ok .opened .zeros)))
+      ap (λ (l : List ℕ). opening 0x70 0x61 0x72 0x61 ++ l) type
+      ∙ ap (λ (l : List ℕ). l ++ take 4 (drop 8 b)) (sym (opens 0x70 0x61 0x72 0x61 b (omega arith) (ok .opened .signed) (ok .opened .zeros)))
       ∙ sym (take-add 8 4 b)
 
   below32 : (i : ℕ) → be32 b i < 0x1_0000_0000

@@ -28,10 +28,10 @@ length-head t = refl
 
 -- the first twelve bytes, by three runs of stores
 pub head-stored : (l : List ℕ) (t : ℕ) → 12 ≤ length l
-    → take 12 (sets (sets (sets l 0 (opening 112 97 114 97)) 8 (bytes16 t)) 10 (bytes16 0)) ≡ head t
+    → take 12 (sets (sets (sets l 0 (opening 0x70 0x61 0x72 0x61)) 8 (bytes16 t)) 10 (bytes16 0)) ≡ head t
 unfolding head bytes16
 head-stored l t h =
-    let signature = opening 112 97 114 97 in
+    let signature = opening 0x70 0x61 0x72 0x61 in
     let once = sets l 0 signature in
     let twice = sets once 8 (bytes16 t) in
     let first : length once ≡ length l = length-sets l 0 signature in
@@ -54,19 +54,19 @@ module _ (t : ℕ) (m : Numbers) (known : t ≤ 4) where
 
   tag-signed : isPara (tagOf t m) ≡ true
   unfolding head
-  tag-signed = opening-signed 112 97 114 97 ((bytes16 t ++ (0 ∷ 0 ∷ [])) ++ inTurn bytes32 counted-out)
+  tag-signed = opening-signed 0x70 0x61 0x72 0x61 ((bytes16 t ++ (0 ∷ 0 ∷ [])) ++ inTurn bytes32 counted-out)
 
   tag-zeros : reservedZero (tagOf t m) ≡ true
   unfolding head
-  tag-zeros = opening-zeros 112 97 114 97 ((bytes16 t ++ (0 ∷ 0 ∷ [])) ++ inTurn bytes32 counted-out)
+  tag-zeros = opening-zeros 0x70 0x61 0x72 0x61 ((bytes16 t ++ (0 ∷ 0 ∷ [])) ++ inTurn bytes32 counted-out)
 
   tag-after : typeZeros (tagOf t m) ≡ true
   unfolding head bytes16
-  tag-after = bytes-stand (opening 112 97 114 97 ++ bytes16 t) (0 ∷ 0 ∷ []) (inTurn bytes32 counted-out) 10 refl
+  tag-after = bytes-stand (opening 0x70 0x61 0x72 0x61 ++ bytes16 t) (0 ∷ 0 ∷ []) (inTurn bytes32 counted-out) 10 refl
 
   pub tag-type : typeOf (tagOf t m) ≡ t
   unfolding head bytes16
-  tag-type = be16-bytes (opening 112 97 114 97) 8 t (0 ∷ 0 ∷ inTurn bytes32 counted-out) refl
+  tag-type = be16-bytes (opening 0x70 0x61 0x72 0x61) 8 t (0 ∷ 0 ∷ inTurn bytes32 counted-out) refl
 
   pub tag-readable : Readable (tagOf t m)
   tag-readable = record {

@@ -16,7 +16,7 @@ use Rattle.para.specs.Signed.{signedOf, patternOf}
 
 -- the signature
 abbrev pub isPara : List ℕ → Bool
-isPara b = signedBy 112 97 114 97 b
+isPara b = signedBy 0x70 0x61 0x72 0x61 b
 
 -- the function type, at byte 8
 abbrev pub typeOf : List ℕ → ℕ
@@ -65,7 +65,7 @@ numbersOf b = used (countOf (typeOf b)) (rawAt b)
 
 -- What is written for a type and seven numbers: the first twelve bytes, and four for each number that the type has. The others are ignored.
 unfoldable pub head : ℕ → List ℕ
-head t = opening 112 97 114 97 ++ (bytes16 t ++ (0 ∷ 0 ∷ []))
+head t = opening 0x70 0x61 0x72 0x61 ++ (bytes16 t ++ (0 ∷ 0 ∷ []))
 
 abbrev pub patterns : Numbers → List ℕ
 patterns m = map patternOf (listed m)
