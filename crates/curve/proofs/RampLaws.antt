@@ -1,12 +1,17 @@
 -- The straight curve of n entries: it begins at 0, ends at 65535, never falls, and stays within 16 bits. Assumes nothing.
-use mathlib.Core.Path.{_≡_}
+use mathlib.Core.Path.{_≡_, subst}
+use mathlib.Core.Logic.{⊎-elim}
 use mathlib.Core.Bool.{true}
 use Prim.Native.Nat.{ℕ, _+_, _-_, _*_, _≤_, _<_}
 use native.Mathlib.Nat.{le-trans, div-eq-of-lt, div-eq-of-lt-le, div-mul-le-self, le-div-iff-mul-le}
 use native.Mathlib.Omega.{arith}
+use lib.ListN.{length, getD, List·getD-eq-default}
 use Rattle.table.specs.Sizes.{spanned}
+use Rattle.table.specs.Order.{Nondecreasing, SixteenBits}
+use Rattle.table.proofs.Choice.{below?}
 use Rattle.table.proofs.Sizes.{within-low}
-use Rattle.curve.specs.Ramp.{ramp}
+use Rattle.table.proofs.Fill.{length-tabulated, getD-tabulated}
+use Rattle.curve.specs.Ramp.{ramp, rampOf}
 
 module _ (n : ℕ) (h : spanned n ≡ true) where
   -- there is something to divide by
@@ -29,3 +34,20 @@ module _ (n : ℕ) (h : spanned n ≡ true) where
 
   pub ramp-fits : (i : ℕ) → i < n → ramp n i < 65536
   ramp-fits i l = omega (arith, ramp-rises i (n - 1) (omega arith), ramp-last)
+
+  -- as a table
+  pub ramp-order : Nondecreasing (rampOf n)
+  ramp-order i j ij l =
+      let m : j < n = subst (λ (k : ℕ). j < k) (length-tabulated (ramp n) n) l in
+      omega (arith, getD-tabulated (ramp n) n i 0 (omega arith), getD-tabulated (ramp n) n j 0 m, ramp-rises i j ij)
+
+  pub ramp-bits : SixteenBits (rampOf n)
+  ramp-bits i = ⊎-elim inside beyond (below? i n)
+    where
+      inside : i < n → getD (rampOf n) i 0 < 65536
+      inside l = omega (arith, getD-tabulated (ramp n) n i 0 l, ramp-fits i l)
+
+      beyond : n ≤ i → getD (rampOf n) i 0 < 65536
+      beyond l =
+          let out : length (rampOf n) ≤ i = omega (arith, length-tabulated (ramp n) n) in
+          omega (arith, List·getD-eq-default (rampOf n) 0 out)

@@ -2,28 +2,27 @@
 -- Sittings there are: every granted start or accept begins one, and from there every list of nudges is one (`begins`, `every-list-goes`).
 -- Assumes nothing.
 use mathlib.Core.Path.{_≡_, _∙_, refl, sym, ap, subst}
-use mathlib.Core.Logic.{⊎-elim}
 use mathlib.Core.Bool.{true}
 use mathlib.Core.List.{List, [], _∷_, map}
-use Prim.Native.Nat.{ℕ, _≤_, _<_}
+use Prim.Native.Nat.{ℕ, _<_}
 use native.Mathlib.Omega.{arith}
-use lib.ListN.{length, getD, set, length-set, List·getD-eq-default}
+use lib.ListN.{length, set, length-set}
 use Rattle.table.specs.Sizes.{sized, spanned}
 use Rattle.table.specs.Order.{nondecreasing, Nondecreasing, SixteenBits}
 use Rattle.table.specs.Refusals.{ifGranted}
 use Rattle.table.specs.declared.Density.{Density}
 use Rattle.table.specs.declared.Done.{Done}
-use Rattle.table.proofs.Choice.{never, below?}
+use Rattle.table.proofs.Choice.{never}
 use Rattle.table.proofs.Sizes.{within-low, within-high, is-within}
-use Rattle.table.proofs.Answers.{doneBy, done-number}
+use Rattle.table.proofs.Answers.{doneBy}
 use Rattle.table.proofs.Order.{test-fact, fact-test, set-test, set-keeps-bits}
-use Rattle.table.proofs.Fill.{length-tabulated, getD-tabulated}
+use Rattle.table.proofs.Fill.{length-tabulated}
 use Rattle.curve.specs.Ramp.{ramp, rampOf}
 use Rattle.curve.specs.Promises.{Sitting, sittingOn, nudgeVerdict, NudgePromise}
 use Rattle.curve.specs.Calls.{Call, start, accept, nudge, Step, Turn, Run, Throughout, opens, isNudge, AllNudges, WholeSitting}
 use Rattle.curve.specs.Demand.{InOrder, SittingKeepsOrder}
-use Rattle.curve.proofs.RampLaws.{ramp-rises, ramp-fits}
-use Rattle.curve.proofs.Promises.{start-granted, start-refused, accept-same, accept-granted, nudge-granted, nudge-refused, nudge-length}
+use Rattle.curve.proofs.RampLaws.{ramp-order, ramp-bits}
+use Rattle.curve.proofs.Promises.{nudge-some, start-granted, start-refused, accept-same, accept-granted, nudge-granted, nudge-refused, nudge-length}
 
 -- What always holds: the table may be worked on, is nondecreasing, and has 16-bit entries.
 pub record Held (s : Sitting) : Type 0 where
@@ -49,27 +48,11 @@ module _ {s : Sitting} (h : Held s) where
 
 -- the straight curve has it
 module _ (n : ℕ) (h : spanned n ≡ true) where
-  ramp-order : Nondecreasing (rampOf n)
-  ramp-order i j ij l =
-      let m : j < n = subst (λ (k : ℕ). j < k) (length-tabulated (ramp n) n) l in
-      omega (arith, getD-tabulated (ramp n) n i 0 (omega arith), getD-tabulated (ramp n) n j 0 m, ramp-rises n h i j ij)
-
-  ramp-bits : SixteenBits (rampOf n)
-  ramp-bits i = ⊎-elim inside beyond (below? i n)
-    where
-      inside : i < n → getD (rampOf n) i 0 < 65536
-      inside l = omega (arith, getD-tabulated (ramp n) n i 0 l, ramp-fits n h i l)
-
-      beyond : n ≤ i → getD (rampOf n) i 0 < 65536
-      beyond l =
-          let out : length (rampOf n) ≤ i = omega (arith, length-tabulated (ramp n) n) in
-          omega (arith, List·getD-eq-default (rampOf n) 0 out)
-
   held-ramp : Held (sittingOn (rampOf n))
   held-ramp = record {
     size = is-within 1 65536 (length (rampOf n)) (omega (arith, length-tabulated (ramp n) n, within-low 2 65536 n h)) (omega (arith, length-tabulated (ramp n) n, within-high 2 65536 n h));
-    order = fact-test (rampOf n) ramp-order;
-    bits = ramp-bits;
+    order = fact-test (rampOf n) (ramp-order n h);
+    bits = ramp-bits n h;
   }
 
 -- and so has what a granted start or accept leaves
@@ -179,7 +162,7 @@ turns-nudge (a ∷ asked) s = (refl, turns-nudge asked (turnOf s a .after))
 turns-run : (asked : List Asked) (s : Sitting) → Run s (turnsOf s asked)
 turns-run [] s = tt
 turns-run (a ∷ asked) s = (
-  (a .fits, record { number = done-number (nudgeVerdict s (a .index) (a .value .0)); table = refl }),
+  (a .fits, nudge-some s (a .index) (a .value)),
   turns-run asked (turnOf s a .after),
 )
 
