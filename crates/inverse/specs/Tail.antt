@@ -31,7 +31,7 @@ cellOf n x = mul binary64 (float (n - 1)) (div binary64 (float (x - 1)) (float 6
 unfoldable pub nodeOf : ℕ → ℕ → Float
 nodeOf n c = div binary64 (mul binary64 (float 65535) (float c)) (float (n - 1))
 
--- f below 0 answers 0, f at or above 65535 answers 65535, otherwise floor(f + 0.5)
+-- f below 0 answers 0, f at or above 65535 answers 65535, otherwise floor(f + 0.5). A NaN would answer 0, as the Rust's cast of it does
 unfoldable pub rounded : Float → ℕ
 rounded f = pick (lt f nought) 0 (pick (le (float 65535) f) 65535 (floor (add binary64 f half)))
 

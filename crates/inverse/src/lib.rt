@@ -27,6 +27,7 @@ enum Found {
     Missed(u16),
 }
 
+// Document 01's z.
 fn leading_zeros(table: &[u16]) -> usize
     ensures { λ r. ⌜ r ≡ leadingZeros (now (table .entry)) ⌝ }
 {
@@ -40,6 +41,7 @@ fn leading_zeros(table: &[u16]) -> usize
     z
 }
 
+// Document 01's w.
 fn trailing_tops(table: &[u16]) -> usize
     ensures { λ r. ⌜ r ≡ trailingTops (now (table .entry)) ⌝ }
 {
@@ -80,7 +82,7 @@ fn first_left(n: usize, z: usize) -> usize
     1
 }
 
-// Where the search begins on the right.
+// Where the search begins on the right. Of nothing but 65535s the Rust's r lies at 0 or below; 0 serves as well, since no l is below it.
 fn first_right(n: usize, w: usize) -> usize
     requires { ⌜ (w ≤ n) × (n ≤ 65536) ⌝ }
     ensures { λ r. ⌜ r ≡ firstRight n w ⌝ }
@@ -189,7 +191,7 @@ fn inverse(table: &[u16], v: u16) -> u16
     }
 }
 
-// The position for a value, by the Rust's own steps. The table stands first in every call, where the Rust has it last.
+// The position for a value, by the Rust's own steps.
 pub fn lut_inverse_interp16(table: &[u16], value: Density) -> Sought
     ensures { λ r. ⌜ InversePromise (now (table .entry)) value r ⌝ }
 {
@@ -214,7 +216,7 @@ fn fill_inverted(table: &[u16], out: &mut [u16])
     }
 }
 
-// Fills `out` with the table inverted: entry i is the position for value i of as many steps as `out` has.
+// Fills `out` with the table inverted: the positions for values spread evenly from 0 to 65535, as many as `out` has entries.
 pub fn invert_lut(table: &[u16], out: &mut [u16]) -> Done
     ensures { λ r. ⌜ InvertPromise (now (table .entry)) (now (out .entry)) r (now (out .exit)) ⌝ }
 {
