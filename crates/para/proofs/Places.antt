@@ -1,11 +1,11 @@
 -- Seven numbers, place by place. Assumes nothing.
 use mathlib.Core.Path.{_≡_, _∙_, refl, sym, ap}
 use mathlib.Core.Bool.{Bool, true, false}
-use mathlib.Core.List.{List, [], _∷_, map}
+use mathlib.Core.List.{[], _∷_, map}
 use Prim.Native.Nat.{ℕ, _≤_, _<_}
 use native.Mathlib.Omega.{arith}
 use borrow.Author.Tests.{ltb-true, lt-ltb}
-use lib.ListN.{length, getD, take, List·getD-map}
+use lib.ListN.{length, take, List·getD-map}
 use lib.Seq.{ext-getD, getD-take, length-take-le}
 use lib.Dec.{ltb}
 use lib.IntN.{ℤ, pos}

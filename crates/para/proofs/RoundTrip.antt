@@ -9,7 +9,7 @@ use Rattle.table.specs.Fill.{tabulated}
 use Rattle.table.specs.Refusals.{granted}
 use Rattle.table.specs.declared.Done.{Done}
 use Rattle.table.proofs.Fill.{tabulated-same}
-use Rattle.icc.specs.Bytes.{EightBits, be16, be32, bytes16, bytes32}
+use Rattle.icc.specs.Bytes.{EightBits, be32, bytes16, bytes32}
 use Rattle.icc.specs.Words.{inTurn}
 use Rattle.icc.specs.Opening.{opening}
 use Rattle.icc.proofs.Numbers.{bytes-be16, below16, be32-halves}
