@@ -19,8 +19,8 @@ use Rattle.icc.specs.Bytes.{bytes32}
 use Rattle.icc.specs.Words.{inTurn}
 use Rattle.icc.specs.Opening.{reservedZero}
 use Rattle.parametric.specs.declared.Unified.{Unified}
-use Rattle.parametric.specs.Unify.{counted}
-use Rattle.parametric.specs.Promises.{numberOfUnified, NewPromise}
+use Rattle.parametric.specs.Unify.{counted, unified}
+use Rattle.parametric.specs.Promises.{numberOfUnified, valueOfUnified, NewPromise}
 use Rattle.parametric.proofs.Unify.{same-unified}
 use Rattle.para.specs.declared.Numbers.{Numbers}
 use Rattle.para.specs.declared.Read.{Read}
@@ -82,6 +82,17 @@ module _ (b : List ℕ) where
       = ap counted (length-tabulated (λ k. nearest (rawAt b k)) (countOf (typeOf b))) ∙ count-counted (typeOf b) (g .known) in
       let q : NewPromise params _ = rw (floats-read g) at p in
       record { number = simp (g .verdict) (simp many at (q .number)); value = simp (g .verdict) (simp many at (q .value)) }
+
+-- A tag's two readings: refused by the same number, and otherwise the curve is unified from the numbers that are read.
+pub same-number : {b : List ℕ} {r : Read} {s : Unified} → ReadPromise b r → CurvePromise b s → numberOfRead r ≡ numberOfUnified s
+same-number p q = p .number ∙ sym (q .number)
+
+pub curve-read : {b : List ℕ} {n : ℕ} {m : Numbers} {s : Unified} → ReadPromise b (Read.Parameters n m) → CurvePromise b s
+    → s ≡ Unified.Curve (unified (take n (map nearest (listed m))))
+curve-read {b} {n} {m} {s} p q =
+    let g = granted-read b (Read.Parameters n m) p n m refl in
+    let made : valueOfUnified s ≡ unified (take n (map nearest (listed m))) = simp (g .verdict) at (q .value) ∙ ap unified (sym (floats-read b g)) in
+    same-unified s (Unified.Curve (unified (take n (map nearest (listed m))))) (sym (same-number p q)) made
 
 -- 7, for a count that no curve has, cannot arise, whatever the tests come to
 no-seven : (p q r s t u : Bool)
