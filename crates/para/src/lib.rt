@@ -142,11 +142,11 @@ pub fn read_para(tag: &[u8]) -> Read
     if !type_zeros(tag) {
         return Read::Refused(Refusal::ReservedNotZero);
     }
-    let t = u16_at(tag, 8) as usize;
-    if 4 < t {
+    let function_type = u16_at(tag, 8) as usize;
+    if 4 < function_type {
         return Read::Refused(Refusal::FunctionType);
     }
-    let n = count_of(t);
+    let n = count_of(function_type);
     if !whole(n, tag.len()) {
         return Read::Refused(Refusal::TagLength);
     }

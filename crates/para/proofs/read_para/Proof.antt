@@ -55,8 +55,8 @@ returns-4 c =
 u16-at-requires : tie.Need-u16-at-requires
 u16-at-requires c κs = search needs
 
-cast-t : tie.Need-cast-t
-cast-t c = search needs
+cast-function-type : tie.Need-cast-function-type
+cast-function-type c = search needs
 
 returns-5 : tie.Need-returns-5
 returns-5 c = read-refused _ _ (untyped _ (opened (c .before .before)) _ (c .before .u16-at .ensures) (c .if5 .taken))
@@ -101,7 +101,7 @@ read-para-spec =
     type-zeros-requires
     returns-4
     u16-at-requires
-    cast-t
+    cast-function-type
     returns-5
     count-of-requires
     whole-requires
