@@ -1,6 +1,6 @@
 -- Two's complement: a pattern's number and a number's pattern, each from the other, and both as the machine has them. Assumes nothing.
 use mathlib.Core.Path.{_≡_, _∙_, refl, sym, ap}
-use mathlib.Core.Bool.{Bool, true, false, not}
+use mathlib.Core.Bool.{Bool, true, false}
 use Prim.Native.Nat.{ℕ, suc, _-_, _<_, zero-le}
 use native.Mathlib.Omega.{arith}
 use borrow.Author.Tests.{le-leb, lt-ltb}
@@ -9,7 +9,7 @@ use lib.IntN.{ℤ, pos, negsuc, natAbs}
 use lib.Signed.{mag, nonNeg, leZ}
 use mir.Syntax.{w32}
 use mir.Val.{Fits, SFits, sel, toZ, ofZ}
-use mir.ValLaws.{half-full, ofZ-fits, toZ-pos, toZ-ofZ, ofZ-toZ}
+use mir.ValLaws.{half-full, ofZ-fits, toZ-pos, toZ-ofZ, toZ-fits, ofZ-toZ}
 use Rattle.table.specs.Choice.{pick}
 use Rattle.table.proofs.Choice.{never}
 use Rattle.para.specs.Signed.{signedOf, patternOf}
@@ -38,6 +38,10 @@ signed-pattern z h =
 -- and 32 bits are the pattern of the number that they stand for
 pub pattern-signed : (x : ℕ) → x < 0x1_0000_0000 → patternOf (signedOf x) ≡ x
 pattern-signed x h = pattern-machine (signedOf x) ∙ ap (ofZ w32) (signed-machine x h) ∙ ofZ-toZ w32 x (record { fits = h })
+
+-- and that number is one that 32 bits hold
+pub signed-wide : (x : ℕ) → x < 0x1_0000_0000 → mag (signedOf x) < 0x8000_0000
+signed-wide x h = rw (signed-machine x h) (toZ-fits w32 x (record { fits = h }) .sfits)
 
 -- A signed number in the machine's hands is the number that was handed over: one that a call answered, and one that a call was given.
 pub held : {z y : ℤ} → mag z < 0x8000_0000 → z ≡ y → toZ w32 (ofZ w32 z) ≡ y

@@ -8,3 +8,4 @@ pub mod Checks
 pub mod Written
 pub mod Promises
 pub mod RoundTrip
+mod Worked

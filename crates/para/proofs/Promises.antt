@@ -4,27 +4,28 @@ use mathlib.Core.Bool.{Bool, true, false}
 use mathlib.Core.List.{List, map, _++_}
 use Prim.Native.Nat.{ℕ, _<_, _≤_}
 use native.Mathlib.Omega.{arith}
-use borrow.Author.Tests.{le-leb, lt-leb, eq-eqb, ne-eqb, leb-true, eqb-true}
+use borrow.Author.Tests.{le-leb, lt-leb, eq-eqb, ne-eqb, leb-true}
 use lib.ListN.{length, take}
-use lib.Ieee.{Float}
+use lib.Dec.{leb}
 use Rattle.table.specs.Fill.{tabulated}
-use Rattle.table.specs.Refusals.{numberOf, Verdict, granted, refused, rung, numberIn}
+use Rattle.table.specs.Refusals.{granted, refused, rung, numberIn}
 use Rattle.table.specs.declared.Done.{Done}
 use Rattle.table.specs.declared.Refusal.{Refusal}
-use Rattle.table.specs.declared.Refusal.the-variants.{OutputLength, ParameterCount, FunctionType}
+use Rattle.table.specs.declared.Refusal.the-variants.{OutputLength, TagLength, WrongSignature, ReservedNotZero, FunctionType}
 use Rattle.table.proofs.Fill.{length-tabulated}
 use Rattle.table.proofs.Refusals.{same-refusal, number-above, same-verdict, rung-granted}
 use Rattle.table.proofs.Answers.{same-done}
 use Rattle.icc.specs.Bytes.{bytes32}
 use Rattle.icc.specs.Words.{inTurn}
+use Rattle.icc.specs.Opening.{reservedZero}
 use Rattle.parametric.specs.declared.Unified.{Unified}
-use Rattle.parametric.specs.Unify.{counted}
-use Rattle.parametric.specs.Promises.{numberOfUnified, NewPromise}
+use Rattle.parametric.specs.Unify.{counted, unified}
+use Rattle.parametric.specs.Promises.{numberOfUnified, valueOfUnified, NewPromise}
 use Rattle.parametric.proofs.Unify.{same-unified}
 use Rattle.para.specs.declared.Numbers.{Numbers}
 use Rattle.para.specs.declared.Read.{Read}
 use Rattle.para.specs.Answers.{numberOfRead, countOfRead, numbersOfRead}
-use Rattle.para.specs.Tag.{typeOf, countOf, tagLength, listed, used, rawAt, numbersOf, head, patterns, tagOf}
+use Rattle.para.specs.Tag.{isPara, typeOf, typeZeros, countOf, tagLength, total, listed, used, rawAt, numbersOf, head, patterns, tagOf}
 use Rattle.para.specs.Promises.{tagVerdict, ReadPromise, nearest, CurvePromise, writeVerdict, WritePromise}
 use Rattle.para.proofs.Counts.{count-most, count-counted}
 use Rattle.para.proofs.Places.{first-used}
@@ -82,23 +83,32 @@ module _ (b : List ℕ) where
       let q : NewPromise params _ = rw (floats-read g) at p in
       record { number = simp (g .verdict) (simp many at (q .number)); value = simp (g .verdict) (simp many at (q .value)) }
 
--- a refusal that a rung does not give comes from those after it
-past : (test : Bool) (why : Refusal) (rest : Verdict) → rung test why rest ≡ refused ParameterCount → (numberOf why ≡ 7 → ⊥) → rest ≡ refused ParameterCount
-past true why rest e n = e
-past false why rest e n = absurd (n (ap numberIn e))
+-- A tag's two readings: refused by the same number, and otherwise the curve is unified from the numbers that are read.
+pub same-number : {b : List ℕ} {r : Read} {s : Unified} → ReadPromise b r → CurvePromise b s → numberOfRead r ≡ numberOfUnified s
+same-number p q = p .number ∙ sym (q .number)
 
--- 7, for a count that no curve has, cannot arise
+pub curve-read : {b : List ℕ} {n : ℕ} {m : Numbers} {s : Unified} → ReadPromise b (Read.Parameters n m) → CurvePromise b s
+    → s ≡ Unified.Curve (unified (take n (map nearest (listed m))))
+curve-read {b} {n} {m} {s} p q =
+    let g = granted-read b (Read.Parameters n m) p n m refl in
+    let made : valueOfUnified s ≡ unified (take n (map nearest (listed m))) = simp (g .verdict) at (q .value) ∙ ap unified (sym (floats-read b g)) in
+    same-unified s (Unified.Curve (unified (take n (map nearest (listed m))))) (sym (same-number p q)) made
+
+-- 7, for a count that no curve has, cannot arise, whatever the tests come to
+no-seven : (p q r s t u : Bool)
+    → numberIn (rung p TagLength (rung q WrongSignature (rung r ReservedNotZero (rung s ReservedNotZero (rung t FunctionType (rung u TagLength granted)))))) ≡ 7 → ⊥
+no-seven false q r s t u e = omega arith
+no-seven true false r s t u e = omega arith
+no-seven true true false s t u e = omega arith
+no-seven true true true false t u e = omega arith
+no-seven true true true true false u e = omega arith
+no-seven true true true true true false e = omega arith
+no-seven true true true true true true e = omega arith
+
 pub never-miscounted : {b : List ℕ} {r : Unified} → CurvePromise b r → numberOfUnified r ≡ 7 → ⊥
 unfolding tagVerdict
-never-miscounted {b} p seven =
-    let e : tagVerdict b ≡ refused ParameterCount = same-verdict (tagVerdict b) (refused ParameterCount) (sym (p .number) ∙ seven) in
-    let f = past _ _ _ e (λ s. omega arith) in
-    let g = past _ _ _ f (λ s. omega arith) in
-    let h = past _ _ _ g (λ s. omega arith) in
-    let i = past _ _ _ h (λ s. omega arith) in
-    let j = past _ _ _ i (λ s. omega arith) in
-    let k = past _ _ _ j (λ s. omega arith) in
-    omega (arith, ap numberIn k)
+never-miscounted {b} p e =
+    no-seven (leb 12 (length b)) (isPara b) (reservedZero b) (typeZeros b) (leb (typeOf b) 4) (total (countOf (typeOf b)) (length b)) (sym (p .number) ∙ e)
 
 -- Writing.
 module _ (t : ℕ) (m : Numbers) (out : List ℕ) where

@@ -9,7 +9,7 @@ use Rattle.table.specs.Fill.{tabulated}
 use Rattle.table.specs.Refusals.{granted}
 use Rattle.table.specs.declared.Done.{Done}
 use Rattle.table.proofs.Fill.{tabulated-same}
-use Rattle.icc.specs.Bytes.{EightBits, be16, be32, bytes16, bytes32}
+use Rattle.icc.specs.Bytes.{EightBits, be32, bytes16, bytes32}
 use Rattle.icc.specs.Words.{inTurn}
 use Rattle.icc.specs.Opening.{opening}
 use Rattle.icc.proofs.Numbers.{bytes-be16, below16, be32-halves}
@@ -20,12 +20,20 @@ use Rattle.para.specs.declared.Read.{Read}
 use Rattle.para.specs.Signed.{patternOf}
 use Rattle.para.specs.Tag.{typeOf, countOf, tagLength, placed, SignedBits, used, rawAt, numbersOf, head, patterns, tagOf}
 use Rattle.para.specs.Promises.{tagVerdict, ReadPromise, WritePromise}
-use Rattle.para.proofs.Complement.{pattern-signed}
+use Rattle.para.proofs.Complement.{pattern-signed, signed-wide}
 use Rattle.para.proofs.Counts.{count-most, same-type}
-use Rattle.para.proofs.Places.{first-used}
+use Rattle.para.proofs.Places.{first-used, used-wide}
 use Rattle.para.proofs.Checks.{Readable, readable, grants, total-exact}
 use Rattle.para.proofs.Written.{tag-type, tag-readable, tag-numbers}
 use Rattle.para.proofs.Promises.{read-granted, granted-read, write-granted, granted-write, read-one, write-one}
+
+below32 : (b : List ℕ) → EightBits b → (i : ℕ) → be32 b i < 0x1_0000_0000
+below32 b w i = omega (arith, be32-halves b i, below16 b w i, below16 b w (i + 2))
+
+-- the numbers of a tag are 32 bits wide
+pub numbers-wide : (b : List ℕ) → EightBits b → SignedBits (numbersOf b)
+unfolding numbersOf rawAt
+numbers-wide b w = used-wide (countOf (typeOf b)) (rawAt b) (λ k. signed-wide (be32 b (12 + 4 * k)) (below32 b w (12 + 4 * k)))
 
 -- What is written reads back as its count and its numbers, those that were ignored as 0.
 pub written-reads : {t : ℕ} {m : Numbers} {out tag : List ℕ} {r : Read} → SignedBits m → WritePromise t m out Done.Yes tag → ReadPromise tag r
@@ -53,16 +61,13 @@ module _ (b : List ℕ) (w : EightBits b) (ok : Readable b) where
       ∙ ap (λ (l : List ℕ). l ++ take 4 (drop 8 b)) (sym (opens 0x70 0x61 0x72 0x61 b (omega arith) (ok .opened .signed) (ok .opened .zeros)))
       ∙ sym (take-add 8 4 b)
 
-  below32 : (i : ℕ) → be32 b i < 0x1_0000_0000
-  below32 i = omega (arith, be32-halves b i, below16 b w i, below16 b w (i + 2))
-
   -- the patterns of its numbers are its own,
   patterns-read : take (countOf (typeOf b)) (patterns (numbersOf b)) ≡ tabulated (λ k. be32 b (12 + 4 * k)) (countOf (typeOf b))
   unfolding numbersOf rawAt
   patterns-read =
       let n = countOf (typeOf b) in
       first-used patternOf n (rawAt b) (count-most (typeOf b) (ok .known))
-      ∙ tabulated-same (λ k. patternOf (rawAt b k)) (λ k. be32 b (12 + 4 * k)) n (λ k h. pattern-signed (be32 b (12 + 4 * k)) (below32 (12 + 4 * k)))
+      ∙ tabulated-same (λ k. patternOf (rawAt b k)) (λ k. be32 b (12 + 4 * k)) n (λ k h. pattern-signed (be32 b (12 + 4 * k)) (below32 b w (12 + 4 * k)))
 
   -- and the whole is what is written for its type and its numbers.
   pub tag-rewritten : tagOf (typeOf b) (numbersOf b) ≡ b

@@ -2,9 +2,9 @@
 use mathlib.Core.Path.{_≡_, _∙_, refl, ap}
 use mathlib.Core.Bool.{true}
 use mathlib.Core.List.{List, [], _∷_, _++_}
-use Prim.Native.Nat.{ℕ, _+_, _*_, _≤_, _<_}
+use Prim.Native.Nat.{ℕ, _≤_, _<_}
 use native.Mathlib.Omega.{arith}
-use lib.ListN.{length, getD, take, length-append, List·getD-map}
+use lib.ListN.{length, take, length-append, List·getD-map}
 use lib.Seq.{sets, length-sets, length-take-le, getD-take}
 use lib.IntN.{pos}
 use Rattle.icc.specs.Bytes.{bytes16, bytes32}

@@ -53,8 +53,11 @@ abbrev pub SignedBits : Numbers → Type 0
 SignedBits m = (k : ℕ) → mag (placed m k) < 0x8000_0000
 
 -- of the numbers at each place the first n, the others being 0
+abbrev pub usedAt : ℕ → (ℕ → ℤ) → ℕ → ℤ
+usedAt n at k = pick (ltb k n) (at k) (pos 0)
+
 abbrev pub used : ℕ → (ℕ → ℤ) → Numbers
-used n at = seven (λ k. pick (ltb k n) (at k) (pos 0))
+used n at = seven (usedAt n at)
 
 -- What a tag holds: raw number k, the four bytes at 12 + 4k; and as many as its type has.
 unfoldable pub rawAt : List ℕ → ℕ → ℤ

@@ -14,15 +14,12 @@ use table::Refusal;
 ghost use mathlib.Core.Path.{_≡_};
 ghost use mathlib.Core.List.{_++_, map};
 ghost use Prim.Native.Nat.{_≤_};
-ghost use lib.Dec.{ltb};
-ghost use lib.IntN.{pos};
 ghost use lib.ListN.{length, take};
-ghost use Rattle.table.specs.Choice.{pick};
 ghost use Rattle.icc.specs.Bytes.{bytes32};
 ghost use Rattle.icc.specs.Words.{inTurn};
 ghost use Rattle.parametric.specs.Promises.{NewPromise};
 ghost use Rattle.para.specs.Signed.{signedOf, patternOf};
-ghost use Rattle.para.specs.Tag.{typeZeros, countOf, tagLength, total, listed, used, rawAt, head, patterns};
+ghost use Rattle.para.specs.Tag.{typeZeros, countOf, tagLength, total, listed, usedAt, used, rawAt, head, patterns};
 ghost use Rattle.para.specs.Promises.{ReadPromise, nearest, CurvePromise, WritePromise};
 
 // Seven raw 16.16 numbers in a tag's order, by ICC.1's letters.
@@ -105,7 +102,7 @@ fn type_zeros(tag: &[u8]) -> bool
 // Number k of a tag that has n, or 0 where it has no such.
 fn number_at(tag: &[u8], n: usize, k: usize) -> i32
     requires { ⌜ tagLength n ≤ length (now tag) ⌝ }
-    ensures { λ r. ⌜ r ≡ pick (ltb k n) (rawAt (now (tag .entry)) k) (pos 0) ⌝ }
+    ensures { λ r. ⌜ r ≡ usedAt n (rawAt (now (tag .entry))) k ⌝ }
 {
     if k < n {
         return signed_of(u32_at(tag, 12 + 4 * k));
@@ -145,11 +142,11 @@ pub fn read_para(tag: &[u8]) -> Read
     if !type_zeros(tag) {
         return Read::Refused(Refusal::ReservedNotZero);
     }
-    let t = u16_at(tag, 8) as usize;
-    if 4 < t {
+    let function_type = u16_at(tag, 8) as usize;
+    if 4 < function_type {
         return Read::Refused(Refusal::FunctionType);
     }
-    let n = count_of(t);
+    let n = count_of(function_type);
     if !whole(n, tag.len()) {
         return Read::Refused(Refusal::TagLength);
     }

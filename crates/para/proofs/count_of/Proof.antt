@@ -1,33 +1,27 @@
-use mathlib.Core.Path.{_≡_, refl}
+-- `count_of` meets its contract, type by type. Assumes nothing.
+use mathlib.Core.Path.{refl}
 use lib.Dec.{lit≤}
 use Rattle.para.specs.Tag.{countOf}
 use Rattle.para.proofs.Counts.{last-type}
 use Rattle.para.proofs.count_of.Statement.{statement}
 use Rattle.para.proofs.count_of.Tie as tie
-use Rattle.para.proofs.count_of.Reads as reads
-use Rattle.para.proofs.count_of.Lts as lts
 
--- src/lib.rt:65:1
 returns : tie.Need-returns
 unfolding countOf
 returns c = (rw (c .match .keys1) refl, lit≤ tt)
 
--- src/lib.rt:65:1
 returns-2 : tie.Need-returns-2
 unfolding countOf
 returns-2 c = (rw (c .match .keys2) refl, lit≤ tt)
 
--- src/lib.rt:65:1
 returns-3 : tie.Need-returns-3
 unfolding countOf
 returns-3 c = (rw (c .match .keys3) refl, lit≤ tt)
 
--- src/lib.rt:65:1
 returns-4 : tie.Need-returns-4
 unfolding countOf
 returns-4 c = (rw (c .match .keys4) refl, lit≤ tt)
 
--- src/lib.rt:65:1
 returns-5 : tie.Need-returns-5
 unfolding countOf
 returns-5 c =

@@ -1,3 +1,4 @@
+-- `curve_from` meets its contract: the float of the number at each of the seven places, and the curve of the first n. Assumes nothing.
 use mathlib.Core.Path.{sym, subst}
 use mathlib.Core.List.{List}
 use native.Mathlib.Omega.{arith}
@@ -11,52 +12,37 @@ use Rattle.para.proofs.Places.{listed-made}
 use borrow.Author.Needs.{needs}
 use Rattle.para.proofs.curve_from.Statement.{statement}
 use Rattle.para.proofs.curve_from.Tie as tie
-use Rattle.para.proofs.curve_from.Reads as reads
-use Rattle.para.proofs.curve_from.Lts as lts
-use Rattle.parametric.proofs.ParametricCurve.new.Reads as new-reads
-use Rattle.rounding.proofs.s15_fixed16_number_to_float.Reads as s15-fixed16-number-to-float-reads
 
--- src/lib.rt:165:9
 s15-fixed16-number-to-float-requires : tie.Need-s15-fixed16-number-to-float-requires
 s15-fixed16-number-to-float-requires c κs = search needs
 
--- src/lib.rt:166:9
 s15-fixed16-number-to-float-requires-2 : tie.Need-s15-fixed16-number-to-float-requires-2
 s15-fixed16-number-to-float-requires-2 c κs = search needs
 
--- src/lib.rt:167:9
 s15-fixed16-number-to-float-requires-3 : tie.Need-s15-fixed16-number-to-float-requires-3
 s15-fixed16-number-to-float-requires-3 c κs = search needs
 
--- src/lib.rt:168:9
 s15-fixed16-number-to-float-requires-4 : tie.Need-s15-fixed16-number-to-float-requires-4
 s15-fixed16-number-to-float-requires-4 c κs = search needs
 
--- src/lib.rt:169:9
 s15-fixed16-number-to-float-requires-5 : tie.Need-s15-fixed16-number-to-float-requires-5
 s15-fixed16-number-to-float-requires-5 c κs = search needs
 
--- src/lib.rt:170:9
 s15-fixed16-number-to-float-requires-6 : tie.Need-s15-fixed16-number-to-float-requires-6
 s15-fixed16-number-to-float-requires-6 c κs = search needs
 
--- src/lib.rt:171:9
 s15-fixed16-number-to-float-requires-7 : tie.Need-s15-fixed16-number-to-float-requires-7
 s15-fixed16-number-to-float-requires-7 c κs = search needs
 
--- src/lib.rt:173:26
 array-share-prefix-params : tie.Need-array-share-prefix-params
 array-share-prefix-params c = search needs
 
--- src/lib.rt:173:26
 slice-aggregate-new : tie.Need-slice-aggregate-new
 slice-aggregate-new c = sym (length-take-le _ _ (omega arith))
 
--- src/lib.rt:173:5
 new-requires : tie.Need-new-requires
 new-requires c κs = search needs
 
--- src/lib.rt:160:1
 returns : tie.Need-returns
 returns c =
     let seventh = c .before .before in

@@ -1,3 +1,4 @@
+-- `number_at` meets its contract: the four bytes where the tag has the number, and 0 otherwise. Assumes nothing.
 use mathlib.Core.Path.{_∙_, ap}
 use borrow.Author.Tests.{lt-ltb, le-ltb}
 use Rattle.para.specs.Signed.{signedOf}
@@ -6,34 +7,24 @@ use Rattle.para.proofs.Complement.{held}
 use borrow.Author.Needs.{needs}
 use Rattle.para.proofs.number_at.Statement.{statement}
 use Rattle.para.proofs.number_at.Tie as tie
-use Rattle.para.proofs.number_at.Reads as reads
-use Rattle.para.proofs.number_at.Lts as lts
-use Rattle.icc.proofs.inside.u32_at.Reads as u32-at-reads
-use Rattle.para.proofs.signed_of.Reads as signed-of-reads
 
--- src/lib.rt:110:43
 mul-u32-at : tie.Need-mul-u32-at
 mul-u32-at c = search needs
 
--- src/lib.rt:110:38
 add-u32-at : tie.Need-add-u32-at
 add-u32-at c = search needs
 
--- src/lib.rt:110:26
 u32-at-requires : tie.Need-u32-at-requires
 u32-at-requires c κs = search needs
 
--- src/lib.rt:110:9
 signed-of-requires : tie.Need-signed-of-requires
 signed-of-requires c κs = search needs
 
--- src/lib.rt:110:9
 returns : tie.Need-returns
 unfolding rawAt
 returns c =
     held (c .signed-of .ok) (c .signed-of .ensures ∙ ap signedOf (c .before .u32-at .ensures) ∙ simp (lt-ltb _ _ (c .before .before .if1 .taken)))
 
--- src/lib.rt:105:1
 returns-2 : tie.Need-returns-2
 returns-2 c = simp (le-ltb _ _ (c .if1 .left))
 

@@ -1,42 +1,32 @@
+-- `numbers_of` meets its contract: the number at each of the seven places. Assumes nothing.
 use Rattle.para.specs.Tag.{rawAt}
 use Rattle.para.proofs.Complement.{held}
 use Rattle.para.proofs.Places.{used-made}
 use borrow.Author.Needs.{needs}
 use Rattle.para.proofs.numbers_of.Statement.{statement}
 use Rattle.para.proofs.numbers_of.Tie as tie
-use Rattle.para.proofs.numbers_of.Reads as reads
-use Rattle.para.proofs.numbers_of.Lts as lts
-use Rattle.para.proofs.number_at.Reads as number-at-reads
 
--- src/lib.rt:121:12
 number-at-requires : tie.Need-number-at-requires
 number-at-requires c κs = search needs
 
--- src/lib.rt:122:12
 number-at-requires-2 : tie.Need-number-at-requires-2
 number-at-requires-2 c κs = search needs
 
--- src/lib.rt:123:12
 number-at-requires-3 : tie.Need-number-at-requires-3
 number-at-requires-3 c κs = search needs
 
--- src/lib.rt:124:12
 number-at-requires-4 : tie.Need-number-at-requires-4
 number-at-requires-4 c κs = search needs
 
--- src/lib.rt:125:12
 number-at-requires-5 : tie.Need-number-at-requires-5
 number-at-requires-5 c κs = search needs
 
--- src/lib.rt:126:12
 number-at-requires-6 : tie.Need-number-at-requires-6
 number-at-requires-6 c κs = search needs
 
--- src/lib.rt:127:12
 number-at-requires-7 : tie.Need-number-at-requires-7
 number-at-requires-7 c κs = search needs
 
--- src/lib.rt:116:1
 returns : tie.Need-returns
 returns c =
     let sixth = c .before in

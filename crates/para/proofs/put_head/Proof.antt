@@ -1,29 +1,21 @@
+-- `put_head` meets its contract: three runs of stores make the first twelve bytes. Assumes nothing.
 use Rattle.para.proofs.Written.{head-stored}
 use borrow.Author.Needs.{needs}
 use Rattle.para.proofs.put_head.Statement.{statement}
 use Rattle.para.proofs.put_head.Tie as tie
-use Rattle.para.proofs.put_head.Reads as reads
-use Rattle.para.proofs.put_head.Lts as lts
-use Rattle.icc.proofs.inside.put_opening.Reads as put-opening-reads
-use Rattle.icc.proofs.inside.put_u16.Reads as put-u16-reads
 
--- src/lib.rt:184:5
 put-opening-requires : tie.Need-put-opening-requires
 put-opening-requires c κs = search needs
 
--- src/lib.rt:185:5
 put-u16-requires : tie.Need-put-u16-requires
 put-u16-requires c κs = search needs
 
--- src/lib.rt:186:5
 put-u16-requires-2 : tie.Need-put-u16-requires-2
 put-u16-requires-2 c κs = search needs
 
--- src/lib.rt:180:1
 same-length : tie.Need-same-length
 same-length c = search needs
 
--- src/lib.rt:180:1
 returns : tie.Need-returns
 returns c =
     let third = c .before .before in

@@ -1,3 +1,4 @@
+-- `put_numbers` meets its contract: the pattern of the number at each of the seven places, and the first n of them stored. Assumes nothing.
 use Rattle.para.specs.Tag.{tagLength}
 use mathlib.Core.Path.{_∙_, sym, ap}
 use mathlib.Core.List.{List, _++_}
@@ -13,58 +14,42 @@ use Rattle.para.proofs.Places.{listed-made}
 use borrow.Author.Needs.{needs}
 use Rattle.para.proofs.put_numbers.Statement.{statement}
 use Rattle.para.proofs.put_numbers.Tie as tie
-use Rattle.para.proofs.put_numbers.Reads as reads
-use Rattle.para.proofs.put_numbers.Lts as lts
-use Rattle.para.proofs.pattern_of.Reads as pattern-of-reads
-use Rattle.para.proofs.put_patterns.Reads as put-patterns-reads
 
--- src/lib.rt:214:9
 pattern-of-requires : tie.Need-pattern-of-requires
 pattern-of-requires c κs = search needs
 
--- src/lib.rt:215:9
 pattern-of-requires-2 : tie.Need-pattern-of-requires-2
 pattern-of-requires-2 c κs = search needs
 
--- src/lib.rt:216:9
 pattern-of-requires-3 : tie.Need-pattern-of-requires-3
 pattern-of-requires-3 c κs = search needs
 
--- src/lib.rt:217:9
 pattern-of-requires-4 : tie.Need-pattern-of-requires-4
 pattern-of-requires-4 c κs = search needs
 
--- src/lib.rt:218:9
 pattern-of-requires-5 : tie.Need-pattern-of-requires-5
 pattern-of-requires-5 c κs = search needs
 
--- src/lib.rt:219:9
 pattern-of-requires-6 : tie.Need-pattern-of-requires-6
 pattern-of-requires-6 c κs = search needs
 
--- src/lib.rt:220:9
 pattern-of-requires-7 : tie.Need-pattern-of-requires-7
 pattern-of-requires-7 c κs = search needs
 
--- src/lib.rt:222:18
 array-share-prefix-patterns : tie.Need-array-share-prefix-patterns
 array-share-prefix-patterns c = search needs
 
--- src/lib.rt:222:18
 slice-aggregate-put-patterns : tie.Need-slice-aggregate-put-patterns
 slice-aggregate-put-patterns c = sym (length-take-le _ _ (omega arith))
 
--- src/lib.rt:222:5
 put-patterns-requires : tie.Need-put-patterns-requires
 put-patterns-requires c κs =
     let start = c .before .before .before .before .before .before .before .before .before .before .before .before .before .before .before .before .before in
     start .pre .1 ∙ ap tagLength (sym (length-take-le _ _ (start .pre .0)))
 
--- src/lib.rt:209:1
 same-length : tie.Need-same-length
 same-length c = search needs
 
--- src/lib.rt:209:1
 returns : tie.Need-returns
 returns c =
     let seventh = c .before .before .before .before .before in

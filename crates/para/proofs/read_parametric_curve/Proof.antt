@@ -1,37 +1,28 @@
+-- `read_parametric_curve` meets its contract: refused as the reading is, and otherwise unified from what it read. Assumes nothing.
 use Rattle.para.proofs.Promises.{refused-read, granted-read, curve-refused, curve-granted}
 use borrow.Author.Needs.{needs}
 use Rattle.para.proofs.read_parametric_curve.Statement.{statement}
 use Rattle.para.proofs.read_parametric_curve.Tie as tie
-use Rattle.para.proofs.read_parametric_curve.Reads as reads
-use Rattle.para.proofs.read_parametric_curve.Lts as lts
-use Rattle.para.proofs.curve_from.Reads as curve-from-reads
-use Rattle.para.proofs.read_para.Reads as read-para-reads
 
--- src/lib.rt:180:11
 read-para-requires : tie.Need-read-para-requires
 read-para-requires c κs = search needs
 
--- src/lib.rt:181:23
 enum-known-why : tie.Need-enum-known-why
 enum-known-why c = search needs
 
--- src/lib.rt:182:26
 enum-known-n : tie.Need-enum-known-n
 enum-known-n c = search needs
 
--- src/lib.rt:182:41
 curve-from-requires : tie.Need-curve-from-requires
 curve-from-requires c κs =
     let called = c .before .before .before in
     granted-read (called .before .before .args .tag .now) (called .read-para .result) (called .read-para .ensures) (c .before .n .given .0 .0) (c .before .n .given .0 .1 .0) (cc) .most
 
--- src/lib.rt:177:1
 returns : tie.Need-returns
 returns c =
     let called = c .before .before .before in
     curve-refused _ _ (refused-read (called .before .before .args .tag .now) (called .read-para .result) (called .read-para .ensures) _ (cc))
 
--- src/lib.rt:177:1
 returns-2 : tie.Need-returns-2
 returns-2 c =
     let told = c .before .before in

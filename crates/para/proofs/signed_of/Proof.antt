@@ -1,3 +1,4 @@
+-- `signed_of` meets its contract: the complement of a pattern's complement is the pattern. Assumes nothing.
 use mathlib.Core.Path.{_≡_, _∙_, sym, ap}
 use Prim.Native.Nat.{_-_}
 use native.Mathlib.Omega.{arith}
@@ -7,22 +8,16 @@ use Rattle.para.proofs.Complement.{signed-machine}
 use borrow.Author.Needs.{needs}
 use Rattle.para.proofs.signed_of.Statement.{statement}
 use Rattle.para.proofs.signed_of.Tie as tie
-use Rattle.para.proofs.signed_of.Reads as reads
-use Rattle.para.proofs.signed_of.Lts as lts
 
--- src/lib.rt:49:16
 cast-result : tie.Need-cast-result
 cast-result c = search needs
 
--- src/lib.rt:49:9
 returns : tie.Need-returns
 returns c = sym (signed-machine (c .before .args .x) (c .before .fits .x .fits))
 
--- src/lib.rt:51:7
 cast-result-2 : tie.Need-cast-result-2
 cast-result-2 c = search needs
 
--- src/lib.rt:45:1
 returns-2 : tie.Need-returns-2
 returns-2 c =
     let x = c .before .args .x in

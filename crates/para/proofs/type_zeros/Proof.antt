@@ -1,23 +1,18 @@
+-- `type_zeros` meets its contract: the first byte that differs settles it, and past it the second does. Assumes nothing.
 use Rattle.para.proofs.Checks.{tenth-differs, eleventh-decides}
 use borrow.Author.Needs.{needs}
 use Rattle.para.proofs.type_zeros.Statement.{statement}
 use Rattle.para.proofs.type_zeros.Tie as tie
-use Rattle.para.proofs.type_zeros.Reads as reads
-use Rattle.para.proofs.type_zeros.Lts as lts
 
--- src/lib.rt:98:8
 shared-slice-read-if1 : tie.Need-shared-slice-read-if1
 shared-slice-read-if1 c = search needs
 
--- src/lib.rt:99:9
 returns : tie.Need-returns
 returns c = tenth-differs _ (c .if1 .taken)
 
--- src/lib.rt:101:5
 shared-slice-read-result : tie.Need-shared-slice-read-result
 shared-slice-read-result c = search needs
 
--- src/lib.rt:94:1
 returns-2 : tie.Need-returns-2
 returns-2 c = eleventh-decides _ (c .before .if1 .left)
 

@@ -1,0 +1,155 @@
+-- Worked examples, by computation: a tag of each type read, with numbers below 0; a tag read as a curve; tags written; and each refusal, with the order of the
+-- refusals. Assumes nothing.
+use mathlib.Core.Path.{refl}
+use mathlib.Core.List.{List, [], _∷_}
+use Prim.Native.Nat.{ℕ}
+use lib.ListN.{replicate}
+use lib.IntN.{ℤ, pos, negsuc}
+use lib.Ieee.{binary32, ofBits, round, neg, div}
+use Rattle.table.specs.Fill.{tabulated}
+use Rattle.table.specs.declared.Done.{Done}
+use Rattle.table.specs.declared.Refusal.the-variants.{OutputLength, TagLength, WrongSignature, ReservedNotZero, FunctionType}
+use Rattle.icc.specs.Bytes.{be16, be32, bytes16, bytes32}
+use Rattle.icc.specs.Words.{inTurn}
+use Rattle.icc.specs.Opening.{stands}
+use Rattle.rounding.specs.Nearest.{ratio}
+use Rattle.parametric.specs.declared.Unified.{Unified}
+use Rattle.parametric.specs.Unify.{unified}
+use Rattle.para.specs.declared.Numbers.{Numbers}
+use Rattle.para.specs.declared.Read.{Read}
+use Rattle.para.specs.Signed.{signedOf, patternOf}
+use Rattle.para.specs.Tag.{countOf, total, rawAt, numbersOf, head}
+use Rattle.para.specs.Promises.{tagVerdict, ReadPromise, CurvePromise, WritePromise}
+
+abbrev raw : ℤ → ℤ → ℤ → ℤ → ℤ → ℤ → ℤ → Numbers
+raw g a b c d e f = record { g = g; a = a; b = b; c = c; d = d; e = e; f = f }
+
+-- the first twelve bytes of a para tag of type t, and a whole tag of each type
+abbrev begun : ℕ → List ℕ → List ℕ
+begun t l = 112 ∷ 97 ∷ 114 ∷ 97 ∷ 0 ∷ 0 ∷ 0 ∷ 0 ∷ 0 ∷ t ∷ 0 ∷ 0 ∷ l
+
+abbrev one : List ℕ
+one = begun 0 (0 ∷ 2 ∷ 51 ∷ 51 ∷ [])
+
+abbrev three : List ℕ
+three = begun 1 (0 ∷ 2 ∷ 0 ∷ 0 ∷ 0 ∷ 1 ∷ 0 ∷ 0 ∷ 255 ∷ 255 ∷ 128 ∷ 0 ∷ [])
+
+abbrev four : List ℕ
+four = begun 2 (0 ∷ 2 ∷ 0 ∷ 0 ∷ 0 ∷ 1 ∷ 0 ∷ 0 ∷ 255 ∷ 255 ∷ 255 ∷ 255 ∷ 128 ∷ 0 ∷ 0 ∷ 0 ∷ [])
+
+-- (sRGB's)
+abbrev five : List ℕ
+five = begun 3 (0 ∷ 2 ∷ 102 ∷ 102 ∷ 0 ∷ 0 ∷ 242 ∷ 167 ∷ 0 ∷ 0 ∷ 13 ∷ 89 ∷ 0 ∷ 0 ∷ 19 ∷ 208 ∷ 0 ∷ 0 ∷ 10 ∷ 91 ∷ [])
+
+abbrev seventh : List ℕ
+seventh = 255 ∷ 254 ∷ 0 ∷ 0 ∷ []
+
+abbrev seven : List ℕ
+seven =
+    begun 4
+    (0 ∷ 0 ∷ 0 ∷ 1 ∷ 0 ∷ 0 ∷ 1 ∷ 0 ∷ 0 ∷ 1 ∷ 0 ∷ 0 ∷ 1 ∷ 0 ∷ 0 ∷ 0 ∷ 127 ∷ 255 ∷ 255 ∷ 255 ∷ 128 ∷ 0 ∷ 0 ∷ 1 ∷ seventh)
+
+-- Read: `negsuc n` is -(n + 1).
+one-read : ReadPromise one (Read.Parameters 1 (raw (pos 144179) (pos 0) (pos 0) (pos 0) (pos 0) (pos 0) (pos 0)))
+unfolding tagVerdict stands total be16 be32 countOf numbersOf rawAt signedOf
+one-read = record { number = refl; count = refl; numbers = refl }
+
+three-read : ReadPromise three (Read.Parameters 3 (raw (pos 131072) (pos 65536) (negsuc 32767) (pos 0) (pos 0) (pos 0) (pos 0)))
+unfolding tagVerdict stands total be16 be32 countOf numbersOf rawAt signedOf
+three-read = record { number = refl; count = refl; numbers = refl }
+
+four-read : ReadPromise four (Read.Parameters 4 (raw (pos 131072) (pos 65536) (negsuc 0) (negsuc 2147483647) (pos 0) (pos 0) (pos 0)))
+unfolding tagVerdict stands total be16 be32 countOf numbersOf rawAt signedOf
+four-read = record { number = refl; count = refl; numbers = refl }
+
+five-read : ReadPromise five (Read.Parameters 5 (raw (pos 157286) (pos 62119) (pos 3417) (pos 5072) (pos 2651) (pos 0) (pos 0)))
+unfolding tagVerdict stands total be16 be32 countOf numbersOf rawAt signedOf
+five-read = record { number = refl; count = refl; numbers = refl }
+
+seven-read : ReadPromise seven (Read.Parameters 7 (raw (pos 1) (pos 256) (pos 65536) (pos 16777216) (pos 2147483647) (negsuc 2147483646) (negsuc 131071)))
+unfolding tagVerdict stands total be16 be32 countOf numbersOf rawAt signedOf
+seven-read = record { number = refl; count = refl; numbers = refl }
+
+-- Read as a curve: 2, 1 and -0.5, and so d = 0.5. A number that no f32 holds is rounded to the even one of its two nearest.
+three-curve : CurvePromise three (Unified.Curve (record {
+  g = ofBits binary32 0x4000_0000;
+  a = ofBits binary32 0x3f80_0000;
+  b = ofBits binary32 0xbf00_0000;
+  c = ofBits binary32 0;
+  d = ofBits binary32 0x3f00_0000;
+  e = ofBits binary32 0;
+  f = ofBits binary32 0;
+}))
+unfolding tagVerdict stands total be16 be32 countOf rawAt signedOf tabulated unified ratio ofBits round neg div
+three-curve = record { number = refl; value = refl }
+
+tied-curve : CurvePromise (begun 0 (1 ∷ 0 ∷ 0 ∷ 1 ∷ [])) (Unified.Curve (record {
+  g = ofBits binary32 0x4380_0000;
+  a = ofBits binary32 0x3f80_0000;
+  b = ofBits binary32 0;
+  c = ofBits binary32 0;
+  d = ofBits binary32 0;
+  e = ofBits binary32 0;
+  f = ofBits binary32 0;
+}))
+unfolding tagVerdict stands total be16 be32 countOf rawAt signedOf tabulated unified ratio ofBits round
+tied-curve = record { number = refl; value = refl }
+
+refused-curve : CurvePromise [] (Unified.Refused TagLength)
+unfolding tagVerdict
+refused-curve = record { number = refl; value = refl }
+
+-- Written; a number that the type does not use is ignored.
+five-written : WritePromise 3 (raw (pos 157286) (pos 62119) (pos 3417) (pos 5072) (pos 2651) (pos 7) (negsuc 7)) (replicate 32 7) Done.Yes five
+unfolding countOf head inTurn bytes16 bytes32 patternOf
+five-written = record { number = refl; after = refl }
+
+seven-written : WritePromise 4 (raw (pos 1) (pos 256) (pos 65536) (pos 16777216) (pos 2147483647) (negsuc 2147483646) (negsuc 131071)) (replicate 40 7) Done.Yes seven
+unfolding countOf head inTurn bytes16 bytes32 patternOf
+seven-written = record { number = refl; after = refl }
+
+-- Each refusal of a reading, the earlier one where two apply.
+short : ReadPromise (112 ∷ 97 ∷ 114 ∷ 97 ∷ 0 ∷ 0 ∷ 0 ∷ 0 ∷ 0 ∷ 0 ∷ 0 ∷ []) (Read.Refused TagLength)
+unfolding tagVerdict
+short = record { number = refl; count = refl; numbers = refl }
+
+unsigned : ReadPromise (99 ∷ 117 ∷ 114 ∷ 118 ∷ 0 ∷ 0 ∷ 0 ∷ 1 ∷ 0 ∷ 0 ∷ 0 ∷ 0 ∷ []) (Read.Refused WrongSignature)
+unfolding tagVerdict stands
+unsigned = record { number = refl; count = refl; numbers = refl }
+
+unreserved : ReadPromise (112 ∷ 97 ∷ 114 ∷ 97 ∷ 0 ∷ 0 ∷ 0 ∷ 1 ∷ 0 ∷ 5 ∷ 0 ∷ 0 ∷ []) (Read.Refused ReservedNotZero)
+unfolding tagVerdict stands
+unreserved = record { number = refl; count = refl; numbers = refl }
+
+unreserved-tenth : ReadPromise (112 ∷ 97 ∷ 114 ∷ 97 ∷ 0 ∷ 0 ∷ 0 ∷ 0 ∷ 0 ∷ 5 ∷ 1 ∷ 0 ∷ []) (Read.Refused ReservedNotZero)
+unfolding tagVerdict stands
+unreserved-tenth = record { number = refl; count = refl; numbers = refl }
+
+unreserved-eleventh : ReadPromise (112 ∷ 97 ∷ 114 ∷ 97 ∷ 0 ∷ 0 ∷ 0 ∷ 0 ∷ 0 ∷ 5 ∷ 0 ∷ 1 ∷ []) (Read.Refused ReservedNotZero)
+unfolding tagVerdict stands
+unreserved-eleventh = record { number = refl; count = refl; numbers = refl }
+
+untyped : ReadPromise (begun 5 []) (Read.Refused FunctionType)
+unfolding tagVerdict stands be16
+untyped = record { number = refl; count = refl; numbers = refl }
+
+-- 256, and not 1
+untyped-high : ReadPromise (112 ∷ 97 ∷ 114 ∷ 97 ∷ 0 ∷ 0 ∷ 0 ∷ 0 ∷ 1 ∷ 0 ∷ 0 ∷ 0 ∷ []) (Read.Refused FunctionType)
+unfolding tagVerdict stands be16
+untyped-high = record { number = refl; count = refl; numbers = refl }
+
+too-short : ReadPromise (begun 0 (0 ∷ 2 ∷ 51 ∷ [])) (Read.Refused TagLength)
+unfolding tagVerdict stands total be16 countOf
+too-short = record { number = refl; count = refl; numbers = refl }
+
+too-long : ReadPromise (begun 0 (0 ∷ 2 ∷ 51 ∷ 51 ∷ 0 ∷ 0 ∷ 0 ∷ 0 ∷ [])) (Read.Refused TagLength)
+unfolding tagVerdict stands total be16 countOf
+too-long = record { number = refl; count = refl; numbers = refl }
+
+-- And of a writing: the buffer stays as it was lent.
+untyped-written : (m : Numbers) → WritePromise 5 m (7 ∷ []) (Done.Refused FunctionType) (7 ∷ [])
+untyped-written m = record { number = refl; after = refl }
+
+misfit-written : (m : Numbers) → WritePromise 0 m (replicate 20 7) (Done.Refused OutputLength) (replicate 20 7)
+unfolding countOf
+misfit-written m = record { number = refl; after = refl }
