@@ -1,13 +1,14 @@
--- Worked examples: document 01's least inputs, a value equal to the last entry, each refusal, and a row. The lookups in them come from the lookup's law
--- on two weighed entries. Assumes nothing.
+-- Worked examples: document 01's least inputs, a value equal to the last entry, each refusal, a row, and demand 3 of one sitting.
+-- The lookups in them come from the lookup's law on two weighed entries. Assumes nothing.
 use mathlib.Core.Path.{_≡_, refl, sym, ap}
 use mathlib.Core.Logic.{⊎-elim}
 use mathlib.Core.List.{List, [], _∷_}
-use Prim.Native.Nat.{ℕ, suc, _+_, _-_, _*_, _≤_, _<_, zero-le}
+use Prim.Native.Nat.{ℕ, zero, suc, _+_, _-_, _*_, _≤_, _<_, zero-le}
 use native.Mathlib.Omega.{arith}
 use lib.ListN.{length, getD}
 use lib.Dec.{lit<, lit≤}
 use Rattle.table.specs.Sizes.{within}
+use Rattle.table.specs.Order.{SixteenBits}
 use Rattle.table.specs.Fill.{tabulated}
 use Rattle.table.specs.declared.Density.{Density}
 use Rattle.table.specs.declared.Done.{Done}
@@ -16,10 +17,15 @@ use Rattle.table.specs.declared.Refusal.the-variants.{TableLength, NotNondecrea
 use Rattle.table.proofs.Choice.{below?}
 use Rattle.lookup.specs.Lookup.{steps, entriesOf, lookedUp}
 use Rattle.lookup.proofs.LookupLaws.{lookup-reaches}
+use Rattle.curve.specs.Promises.{sittingOn}
+use Rattle.curve.specs.Calls.{accept, Throughout}
+use Rattle.curve.proofs.Sitting.{Asked, turnsOf, accept-begins, every-list-goes}
 use Rattle.least.specs.Least.{leastOf}
 use Rattle.least.specs.Inside.{Passed}
 use Rattle.least.specs.Promises.{LeastPromise, LeastRowPromise}
+use Rattle.least.specs.Demand.{CurveObeys}
 use Rattle.least.proofs.LeastLaws.{least-at}
+use Rattle.least.proofs.Demand.{demand-3}
 use Rattle.least.proofs.Tables.{table-rises}
 
 density : ℕ → Density
@@ -125,3 +131,20 @@ row-short-output = record { number = refl; after = refl }
 row-falling : LeastRowPromise (20 ∷ 10 ∷ []) (5 ∷ []) (7 ∷ []) (Done.Refused NotNondecreasing) (7 ∷ [])
 unfolding within
 row-falling = record { number = refl; after = refl }
+
+-- Demand 3 of one sitting: the table accepted, and its middle entry nudged to 200.
+bent-bits : SixteenBits bent
+unfolding bent
+bent-bits zero = lit< tt
+bent-bits (suc zero) = lit< tt
+bent-bits (suc (suc zero)) = lit< tt
+bent-bits (suc (suc (suc i))) = lit< tt
+
+asked : List Asked
+unfolding density
+asked = record { index = 1; value = density 200; fits = lit< tt } ∷ []
+
+sitting : Throughout (CurveObeys (sittingOn bent)) (sittingOn bent) (turnsOf (sittingOn bent) asked)
+sitting =
+    demand-3 (sittingOn bent) (record { call = accept; answer = Done.Yes; after = sittingOn bent }) (turnsOf (sittingOn bent) asked)
+    (every-list-goes (accept-begins (sittingOn bent) bent-bits (bent-ok .size) (bent-ok .order)) asked)
