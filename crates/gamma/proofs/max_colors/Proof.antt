@@ -3,10 +3,10 @@ use mathlib.Core.Path.{_≡_, refl}
 use Prim.Native.Nat.{_*_, _%_, _^_}
 use native.Mathlib.Nat.{one-mul, mod-eq-of-lt}
 use native.Mathlib.Omega.{arith}
-use Rattle.lookup.proofs.GammaLaws.{power-low, power-high}
+use Rattle.gamma.proofs.Laws.{power-low, power-high}
 use borrow.Author.Needs.{needs}
-use Rattle.lookup.proofs.max_colors.Statement.{statement}
-use Rattle.lookup.proofs.max_colors.Tie as tie
+use Rattle.gamma.proofs.max_colors.Statement.{statement}
+use Rattle.gamma.proofs.max_colors.Tie as tie
 
 shifted : (c : tie.Start) → 1 * 2 ^ c .args .depth % 2 ^ 64 ≡ 2 ^ c .args .depth
 shifted c =

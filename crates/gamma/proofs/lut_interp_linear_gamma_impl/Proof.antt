@@ -8,8 +8,8 @@ use Rattle.table.specs.Sizes.{within, sized, spanned}
 use Rattle.table.proofs.Choice.{fails, holds}
 use Rattle.table.proofs.Sizes.{within-low, within-high}
 use borrow.Author.Needs.{needs}
-use Rattle.lookup.proofs.lut_interp_linear_gamma_impl.Statement.{statement}
-use Rattle.lookup.proofs.lut_interp_linear_gamma_impl.Tie as tie
+use Rattle.gamma.proofs.lut_interp_linear_gamma_impl.Statement.{statement}
+use Rattle.gamma.proofs.lut_interp_linear_gamma_impl.Tie as tie
 
 -- what holds past each rung
 table-ok : (c : tie.Else1) → sized (length (now (c .before .before .before .args .table))) ≡ true

@@ -1,10 +1,10 @@
 -- `gamma_unit` meets its contract: a depth of 1 to 16 divides by 1 to 65535. Assumes nothing.
 use mathlib.Core.Path.{refl}
-use Rattle.lookup.specs.Lookup.{gammaUnit}
-use Rattle.lookup.proofs.GammaLaws.{unit-low, unit-high}
+use Rattle.gamma.specs.Gamma.{gammaUnit}
+use Rattle.gamma.proofs.Laws.{unit-low, unit-high}
 use borrow.Author.Needs.{needs}
-use Rattle.lookup.proofs.gamma_unit.Statement.{statement}
-use Rattle.lookup.proofs.gamma_unit.Tie as tie
+use Rattle.gamma.proofs.gamma_unit.Statement.{statement}
+use Rattle.gamma.proofs.gamma_unit.Tie as tie
 
 sub-cap-value : tie.Need-sub-cap-value
 sub-cap-value c = search needs

@@ -4,9 +4,10 @@ use Prim.Native.Nat.{ℕ, _+_, _-_, _*_, _/_, _^_, _≤_, _<_}
 use native.Mathlib.Nat.{le-trans, mul-le-mul-left, div-le-self, div-mul-le-self, div-lt-iff-lt-mul, le-div-iff-mul-le}
 use native.Mathlib.Omega.{arith}
 use lib.Pow.{pow-mono}
-use Rattle.lookup.specs.Lookup.{lower, upper, steps, gammaUnit, gamma}
+use Rattle.lookup.specs.Lookup.{lower, upper, steps}
+use Rattle.gamma.specs.Gamma.{gammaUnit, gamma}
 use Rattle.lookup.proofs.Steps.{steps-le}
 use Rattle.lookup.proofs.Sum.{Rises, div-mono, lower-le-sum, sum-le-upper, sum-rises}
 
 -- 2^depth, for a depth of 1 to 16
 pub power-low : (depth : ℕ) → 1 ≤ depth → 2 ≤ 2 ^ depth

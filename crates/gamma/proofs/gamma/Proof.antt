@@ -3,13 +3,13 @@ use Prim.Native.Nat.{_-_, _≤_}
 use native.Mathlib.Omega.{arith}
 use lib.ListN.{length}
 use denote.Ref.{now}
-use Rattle.lookup.specs.Lookup.{gamma}
+use Rattle.gamma.specs.Gamma.{gamma}
 use Rattle.lookup.proofs.Weigh.{product-le}
 use Rattle.lookup.proofs.Steps.{steps-le}
-use Rattle.lookup.proofs.GammaLaws.{rounded-fits}
+use Rattle.gamma.proofs.Laws.{rounded-fits}
 use borrow.Author.Needs.{needs}
-use Rattle.lookup.proofs.gamma.Statement.{statement}
-use Rattle.lookup.proofs.gamma.Tie as tie
+use Rattle.gamma.proofs.gamma.Statement.{statement}
+use Rattle.gamma.proofs.gamma.Tie as tie
 
 sub-weighted : tie.Need-sub-weighted
 sub-weighted c = search needs
