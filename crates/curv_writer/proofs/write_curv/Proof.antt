@@ -3,11 +3,11 @@ use mathlib.Core.Path.{_∙_, ap}
 use mathlib.Core.List.{List, _++_}
 use Prim.Native.Nat.{ℕ}
 use native.Mathlib.Omega.{arith}
-use Rattle.curv.specs.Tag.{bytesOf}
-use Rattle.curv.proofs.Promises.{write-many, write-misfit, write-granted}
+use Rattle.curv_writer.specs.Written.{bytesOf}
+use Rattle.curv_writer.proofs.Promises.{write-many, write-misfit, write-granted}
 use borrow.Author.Needs.{needs}
-use Rattle.curv.proofs.write_curv.Statement.{statement}
-use Rattle.curv.proofs.write_curv.Tie as tie
+use Rattle.curv_writer.proofs.write_curv.Statement.{statement}
+use Rattle.curv_writer.proofs.write_curv.Tie as tie
 
 returns : tie.Need-returns
 returns c = write-many _ _ (omega arith)

@@ -1,20 +1,20 @@
--- The bytes that are written for a table: the stores that make them, and what the tests say of them. Assumes nothing.
+-- The bytes that are written for a table: the stores that make the first twelve, and what the tests say of the whole. Assumes nothing.
 use mathlib.Core.Path.{_≡_, _∙_, refl, ap}
 use mathlib.Core.Bool.{true}
-use mathlib.Core.List.{List, [], _∷_, _++_, append-assoc}
-use Prim.Native.Nat.{ℕ, _+_, _*_, _≤_, _<_}
-use native.Mathlib.Numerals.{add-one}
+use mathlib.Core.List.{List, _++_}
+use Prim.Native.Nat.{ℕ, _+_, _≤_}
 use native.Mathlib.Omega.{arith}
-use lib.ListN.{length, getD, take, length-append}
-use lib.Seq.{sets, length-sets, take-suc}
-use Rattle.icc.specs.Bytes.{bytes16, bytes32}
+use lib.ListN.{length, take, length-append}
+use lib.Seq.{sets, length-sets}
+use Rattle.icc.specs.Bytes.{bytes32}
 use Rattle.icc.specs.Opening.{reservedZero, opening}
-use Rattle.icc.proofs.Numbers.{length-bytes16, length-bytes32, be32-bytes}
+use Rattle.icc.proofs.Numbers.{length-bytes32, be32-bytes}
 use Rattle.icc.proofs.Opening.{opening-signed, opening-zeros}
 use Rattle.icc.proofs.Stores.{take-sets}
-use Rattle.curv.specs.Tag.{isCurv, countOf, head, bytesOf, tagOf, tagLength}
+use Rattle.icc.proofs.Words.{two-bytes, length-words}
+use Rattle.curv.specs.Tag.{isCurv, countOf, tagLength}
 use Rattle.curv.proofs.Checks.{Readable, total-written}
-use Rattle.curv.proofs.Entries.{bytes-append, bytes-one, length-bytes}
+use Rattle.curv_writer.specs.Written.{head, bytesOf, tagOf}
 
 pub length-head : (n : ℕ) → length (head n) ≡ 12
 unfolding head
@@ -29,20 +29,10 @@ head-stored l n h =
     take-sets (sets l 0 signature) 8 (bytes32 n) 12 four (omega (arith, length-sets l 0 signature))
     ∙ ap (λ (k : List ℕ). k ++ bytes32 n) (take-sets l 0 signature 8 refl (omega arith))
 
--- one more entry, two bytes after those that stand
-pub entry-stored : (t o out : List ℕ) (i : ℕ) → i < length t → length out ≡ tagLength (length t)
-    → take (12 + 2 * i) out ≡ take 12 o ++ bytesOf (take i t)
-    → take (12 + 2 * (i + 1)) (sets out (12 + 2 * i) (bytes16 (getD t i 0))) ≡ take 12 o ++ bytesOf (take (i + 1) t)
-entry-stored t o out i h e inv =
-    let x = getD t i 0 in
-    let two : 12 + 2 * i + length (bytes16 x) ≡ 12 + 2 * (i + 1) = omega (arith, length-bytes16 x) in
-    take-sets out (12 + 2 * i) (bytes16 x) (12 + 2 * (i + 1)) two (omega arith)
-    ∙ rw (inv, ← bytes-one x, append-assoc (take 12 o) (bytesOf (take i t)) (bytesOf (x ∷ [])), ← bytes-append (take i t) (x ∷ []), add-one i, take-suc t i 0 h) refl
-
 -- What is written passes the tests, and holds as many entries as the table.
 module _ (t : List ℕ) where
   pub length-tag : length (tagOf t) ≡ tagLength (length t)
-  length-tag = omega (arith, length-append (head (length t)) (bytesOf t), length-head (length t), length-bytes t)
+  length-tag = omega (arith, length-append (head (length t)) (bytesOf t), length-head (length t), length-words two-bytes t)
 
   pub tag-signed : isCurv (tagOf t) ≡ true
   unfolding head

@@ -1,8 +1,8 @@
 -- `put_head` meets its contract: two runs of stores make the first twelve bytes. Assumes nothing.
-use Rattle.curv.proofs.Written.{head-stored}
+use Rattle.curv_writer.proofs.Written.{head-stored}
 use borrow.Author.Needs.{needs}
-use Rattle.curv.proofs.put_head.Statement.{statement}
-use Rattle.curv.proofs.put_head.Tie as tie
+use Rattle.curv_writer.proofs.put_head.Statement.{statement}
+use Rattle.curv_writer.proofs.put_head.Tie as tie
 
 put-opening-requires : tie.Need-put-opening-requires
 put-opening-requires c κs = search needs

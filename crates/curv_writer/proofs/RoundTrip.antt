@@ -14,17 +14,21 @@ use Rattle.icc.specs.Bytes.{EightBits}
 use Rattle.icc.proofs.Numbers.{bytes-be32}
 use Rattle.icc.specs.Opening.{opening}
 use Rattle.icc.proofs.Opening.{opens}
+use Rattle.icc.proofs.Words.{two-bytes, length-words, words-back, words-kept}
 use Rattle.curv.specs.declared.Counted.{Counted}
-use Rattle.curv.specs.Tag.{countOf, entryAt, entriesOf, partOf, head, bytesOf, tagOf, tagLength}
-use Rattle.curv.specs.Promises.{tagVerdict, CountPromise, ReadPromise, PartPromise, WritePromise}
+use Rattle.curv.specs.Tag.{countOf, entryAt, entriesOf, partOf, tagLength}
+use Rattle.curv.specs.Promises.{tagVerdict, CountPromise, ReadPromise, PartPromise}
 use Rattle.curv.proofs.Checks.{Readable, readable, grants, total-exact, total-room}
-use Rattle.curv.proofs.Entries.{entries-back, bytes-entries, length-bytes}
-use Rattle.curv.proofs.Written.{length-head, tag-count, tag-readable}
-use Rattle.curv.proofs.Promises.{granted-read, granted-part, granted-write, count-one, read-one, write-one, count-granted, read-granted, write-granted}
+use Rattle.curv.proofs.Promises.{granted-read, granted-part, count-one, read-one, count-granted, read-granted}
+use Rattle.curv_writer.specs.Written.{head, bytesOf, tagOf}
+use Rattle.curv_writer.specs.Promises.{WritePromise}
+use Rattle.curv_writer.proofs.Written.{length-head, tag-count, tag-readable}
+use Rattle.curv_writer.proofs.Promises.{granted-write, write-one, write-granted}
 
 -- the bytes of the part are those of the entries
 pub part-entries : (b : List ℕ) → EightBits b → Readable b → partOf b ≡ bytesOf (entriesOf b)
-part-entries b w r = sym (bytes-entries b w (countOf b) (total-room (countOf b) (length b) (r .whole)))
+unfolding entryAt
+part-entries b w r = sym (words-kept two-bytes b w 12 (countOf b) (total-room (countOf b) (length b) (r .whole)))
 
 -- the first twelve bytes of a tag that passes the tests are those of its count
 head-read : (b : List ℕ) → EightBits b → Readable b → head (countOf b) ≡ take 12 b
@@ -60,12 +64,13 @@ module _ {t out tag : List ℕ} (written : WritePromise t out Done.Yes tag) wher
   count-stated = rw tag-stated (tag-count t)
 
   entries-stated : entriesOf tag ≡ t
-  entries-stated = rw (count-stated, tag-stated) (entries-back (head (length t)) t (length-head (length t)))
+  unfolding entryAt
+  entries-stated = rw (count-stated, tag-stated) (words-back two-bytes (head (length t)) t 12 (length-head (length t)))
 
   part-stated : partOf tag ≡ bytesOf t
   part-stated =
       rw (count-stated, tag-stated, drop-at (head (length t)) (bytesOf t) 12 (length-head (length t)))
-      (take-all (2 * length t) (bytesOf t) (omega (arith, length-bytes t)))
+      (take-all (2 * length t) (bytesOf t) (omega (arith, length-words two-bytes t)))
 
   pub written-counts : {r : Counted} → CountPromise tag r → r ≡ Counted.Entries (length t)
   written-counts p = count-one p (count-granted tag (length t) granted-stated (sym count-stated))
