@@ -14,13 +14,14 @@ use Rattle.icc.proofs.Numbers.{be16-bytes}
 use Rattle.icc.proofs.Opening.{opening-signed, opening-zeros, bytes-stand}
 use Rattle.icc.proofs.Stores.{take-sets}
 use Rattle.icc.proofs.Words.{four-bytes, length-words, word-back}
 use Rattle.para.specs.declared.Numbers.{Numbers}
-use Rattle.para.specs.Signed.{signedOf, patternOf}
-use Rattle.para.specs.Tag.{isPara, typeOf, typeZeros, countOf, tagLength, listed, placed, SignedBits, used, rawAt, head, patterns, tagOf}
-use Rattle.para.proofs.Complement.{signed-pattern}
+use Rattle.para.specs.Signed.{signedOf}
+use Rattle.para.specs.Tag.{isPara, typeOf, typeZeros, countOf, tagLength, listed, placed, SignedBits, used, rawAt}
 use Rattle.para.proofs.Counts.{count-most}
 use Rattle.para.proofs.Places.{used-same}
 use Rattle.para.proofs.Checks.{Readable, total-written}
+use Rattle.para_writer.specs.Written.{patternOf, head, patterns, tagOf}
+use Rattle.para_writer.proofs.Complement.{signed-pattern}
 
 pub length-head : (t : ℕ) → length (head t) ≡ 12
 unfolding head bytes16

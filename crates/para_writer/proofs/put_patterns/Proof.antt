@@ -4,8 +4,8 @@ use native.Mathlib.Omega.{arith}
 use borrow.Author.Needs.{needs}
 use lib.ListN.{length}
 use Rattle.icc.proofs.Words.{four-bytes, Storing, storing-start, storing-more, storing-done}
-use Rattle.para.proofs.put_patterns.Statement.{statement}
-use Rattle.para.proofs.put_patterns.Tie as tie
+use Rattle.para_writer.proofs.put_patterns.Statement.{statement}
+use Rattle.para_writer.proofs.put_patterns.Tie as tie
 
 abbrev Inv-loop : tie.InvT-loop
 Inv-loop patterns out₀ k₀ out k = Storing four-bytes patterns out₀ 12 k out

@@ -1,7 +1,7 @@
 -- `pattern_of` meets its contract: a number from 0 up is its own pattern, and one below 0 the complement of its complement's. Assumes nothing.
-use Rattle.para.proofs.Complement.{above-casts, above-pattern, below-casts, below-pattern}
-use Rattle.para.proofs.pattern_of.Statement.{statement}
-use Rattle.para.proofs.pattern_of.Tie as tie
+use Rattle.para_writer.proofs.Complement.{above-casts, above-pattern, below-casts, below-pattern}
+use Rattle.para_writer.proofs.pattern_of.Statement.{statement}
+use Rattle.para_writer.proofs.pattern_of.Tie as tie
 
 cast-result : tie.Need-cast-result
 cast-result c = above-casts _ (c .before .fits .z) (c .if1 .taken)

@@ -1,8 +1,8 @@
 -- `put_head` meets its contract: three runs of stores make the first twelve bytes. Assumes nothing.
-use Rattle.para.proofs.Written.{head-stored}
+use Rattle.para_writer.proofs.Written.{head-stored}
 use borrow.Author.Needs.{needs}
-use Rattle.para.proofs.put_head.Statement.{statement}
-use Rattle.para.proofs.put_head.Tie as tie
+use Rattle.para_writer.proofs.put_head.Statement.{statement}
+use Rattle.para_writer.proofs.put_head.Tie as tie
 
 put-opening-requires : tie.Need-put-opening-requires
 put-opening-requires c κs = search needs

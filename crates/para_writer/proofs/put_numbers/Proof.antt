@@ -8,12 +8,12 @@ use lib.ListN.{take}
 use lib.Seq.{length-take-le}
 use Rattle.icc.specs.Bytes.{bytes32}
 use Rattle.icc.specs.Words.{inTurn}
-use Rattle.para.specs.Signed.{patternOf}
+use Rattle.para_writer.specs.Written.{patternOf}
 use Rattle.para.proofs.Complement.{passed}
 use Rattle.para.proofs.Places.{listed-made}
 use borrow.Author.Needs.{needs}
-use Rattle.para.proofs.put_numbers.Statement.{statement}
-use Rattle.para.proofs.put_numbers.Tie as tie
+use Rattle.para_writer.proofs.put_numbers.Statement.{statement}
+use Rattle.para_writer.proofs.put_numbers.Tie as tie
 
 pattern-of-requires : tie.Need-pattern-of-requires
 pattern-of-requires c κs = search needs

@@ -3,8 +3,8 @@ use mathlib.Core.Path.{refl}
 use lib.Dec.{lit≤}
 use Rattle.para.specs.Tag.{countOf}
 use Rattle.para.proofs.Counts.{last-type}
-use Rattle.para.proofs.count_of.Statement.{statement}
-use Rattle.para.proofs.count_of.Tie as tie
+use Rattle.para.proofs.inside.count_of.Statement.{statement}
+use Rattle.para.proofs.inside.count_of.Tie as tie
 
 returns : tie.Need-returns
 unfolding countOf

@@ -15,17 +15,20 @@ use Rattle.icc.specs.Opening.{opening}
 use Rattle.icc.proofs.Numbers.{bytes-be16, below16, be32-halves}
 use Rattle.icc.proofs.Opening.{opens, stands-bytes}
 use Rattle.icc.proofs.Words.{four-bytes, words-kept}
 use Rattle.para.specs.declared.Numbers.{Numbers}
 use Rattle.para.specs.declared.Read.{Read}
-use Rattle.para.specs.Signed.{patternOf}
-use Rattle.para.specs.Tag.{typeOf, countOf, tagLength, placed, SignedBits, used, rawAt, numbersOf, head, patterns, tagOf}
-use Rattle.para.specs.Promises.{tagVerdict, ReadPromise, WritePromise}
-use Rattle.para.proofs.Complement.{pattern-signed, signed-wide}
+use Rattle.para.specs.Tag.{typeOf, countOf, tagLength, placed, SignedBits, used, rawAt, numbersOf}
+use Rattle.para.specs.Promises.{tagVerdict, ReadPromise}
+use Rattle.para.proofs.Complement.{signed-wide}
 use Rattle.para.proofs.Counts.{count-most, same-type}
 use Rattle.para.proofs.Places.{first-used, used-wide}
 use Rattle.para.proofs.Checks.{Readable, readable, grants, total-exact}
-use Rattle.para.proofs.Written.{tag-type, tag-readable, tag-numbers}
-use Rattle.para.proofs.Promises.{read-granted, granted-read, write-granted, granted-write, read-one, write-one}
+use Rattle.para.proofs.Promises.{read-granted, granted-read, read-one}
+use Rattle.para_writer.specs.Written.{patternOf, head, patterns, tagOf}
+use Rattle.para_writer.specs.Promises.{WritePromise}
+use Rattle.para_writer.proofs.Complement.{pattern-signed}
+use Rattle.para_writer.proofs.Written.{tag-type, tag-readable, tag-numbers}
+use Rattle.para_writer.proofs.Promises.{write-granted, granted-write, write-one}
 
 below32 : (b : List ℕ) → EightBits b → (i : ℕ) → be32 b i < 0x1_0000_0000
 below32 b w i = omega (arith, be32-halves b i, below16 b w i, below16 b w (i + 2))

@@ -1,9 +1,9 @@
 -- `write_para` meets its contract: the two tests in turn, then the first twelve bytes and the numbers' after them. Assumes nothing.
 use native.Mathlib.Omega.{arith}
-use Rattle.para.proofs.Promises.{write-untyped, write-misfit, write-done}
+use Rattle.para_writer.proofs.Promises.{write-untyped, write-misfit, write-done}
 use borrow.Author.Needs.{needs}
-use Rattle.para.proofs.write_para.Statement.{statement}
-use Rattle.para.proofs.write_para.Tie as tie
+use Rattle.para_writer.proofs.write_para.Statement.{statement}
+use Rattle.para_writer.proofs.write_para.Tie as tie
 
 returns : tie.Need-returns
 returns c = write-untyped _ _ _ (c .if1 .taken)
