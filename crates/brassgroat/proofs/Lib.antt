@@ -1,0 +1,2 @@
+-- `Parts`: the part of a tag as it crosses.
+pub mod Parts
