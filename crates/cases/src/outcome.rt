@@ -2,7 +2,7 @@
 use crate::bytes::plus;
 
 // A refusal's number, or 0, and a word of the answer; of a refusal, of what a lent buffer holds.
-pub struct Said {
+pub struct Answer {
     pub refusal: u32,
     pub word: u32,
 }
@@ -13,12 +13,12 @@ pub struct Outcome {
     pub asked: usize,
     pub agreed: usize,
     pub place: usize,
-    pub wanted: Said,
-    pub given: Said,
+    pub wanted: Answer,
+    pub given: Answer,
 }
 
-pub fn said(refusal: u32, word: u32) -> Said {
-    Said { refusal, word }
+pub fn said(refusal: u32, word: u32) -> Answer {
+    Answer { refusal, word }
 }
 
 pub fn nothing() -> Outcome {
@@ -35,7 +35,7 @@ pub fn is_whole(o: Outcome) -> bool {
     o.asked == o.agreed
 }
 
-fn is_same(a: Said, b: Said) -> bool {
+fn is_same(a: Answer, b: Answer) -> bool {
     if a.refusal != b.refusal {
         return false;
     }
@@ -43,15 +43,17 @@ fn is_same(a: Said, b: Said) -> bool {
 }
 
 // One more answer.
-pub fn counted(o: Outcome, wanted: Said, given: Said) -> Outcome {
+pub fn counted(o: Outcome, wanted: Answer, given: Answer) -> Outcome {
     let asked = plus(o.asked, 1);
+    let first_wanted = o.wanted;
+    let first_given = o.given;
     if is_same(wanted, given) {
         return Outcome {
             asked,
             agreed: plus(o.agreed, 1),
             place: o.place,
-            wanted: o.wanted,
-            given: o.given,
+            wanted: first_wanted,
+            given: first_given,
         };
     }
     if is_whole(o) {
@@ -67,8 +69,8 @@ pub fn counted(o: Outcome, wanted: Said, given: Said) -> Outcome {
         asked,
         agreed: o.agreed,
         place: o.place,
-        wanted: o.wanted,
-        given: o.given,
+        wanted: first_wanted,
+        given: first_given,
     }
 }
 

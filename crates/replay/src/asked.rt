@@ -1,18 +1,5 @@
 // Calls that answer in a few words: the question is read from the record and asked of the library.
 ghost use Prim.Native.Nat.{_≤_};
-use crate::bytes::half_at;
-use crate::bytes::number_at;
-use crate::bytes::plus;
-use crate::bytes::word_at;
-use crate::floats::double_of;
-use crate::floats::float_of;
-use crate::floats::signed_of;
-use crate::layout::answer_words;
-use crate::outcome::Outcome;
-use crate::outcome::as_one;
-use crate::outcome::counted;
-use crate::outcome::nothing;
-use crate::outcome::said;
 use crate::said::Given;
 use crate::said::coded;
 use crate::said::degenerated;
@@ -24,6 +11,20 @@ use crate::said::one_float;
 use crate::said::one_word;
 use crate::said::sought;
 use crate::said::unified;
+use cases::bytes::half_at;
+use cases::bytes::number_at;
+use cases::bytes::plus;
+use cases::bytes::word_at;
+use cases::floats::double_of;
+use cases::floats::float_of;
+use cases::floats::signed_of;
+use cases::layout::answer_words;
+use cases::lists::parameters;
+use cases::outcome::Outcome;
+use cases::outcome::as_one;
+use cases::outcome::counted;
+use cases::outcome::nothing;
+use cases::outcome::said;
 use matan::Direction;
 use parametric::ParametricCurve;
 use table::Density;
@@ -48,19 +49,6 @@ fn double_at(record: &[u8], at: usize) -> f64 {
 
 fn float_at(record: &[u8], at: usize) -> f32 {
     float_of(word_at(record, at))
-}
-
-// The eight places of a list of parameters.
-fn parameters(record: &[u8], at: usize) -> [f32; 8] {
-    let mut list = [0.0f32; 8];
-    let mut place = at;
-    let mut i = 0;
-    while i < 8 {
-        list[i] = float_at(record, place);
-        place = plus(place, 4);
-        i += 1;
-    }
-    list
 }
 
 fn curve_of(list: &[f32], count: usize) -> Given {

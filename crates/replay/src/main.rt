@@ -2,24 +2,20 @@
 // The argument names the file; without one it is the recorded list. The last line is the verdict: as many asked as agreed, or what is
 // wrong with the file.
 mod asked;
-mod bytes;
-mod floats;
-mod layout;
 mod lent;
-mod outcome;
 mod record;
 mod said;
 mod shown;
 
-use crate::bytes::long_at;
-use crate::bytes::number_at;
-use crate::bytes::plus;
 use crate::record::Head;
 use crate::record::Went;
 use crate::record::replayed;
 use crate::shown::counts_line;
 use crate::shown::number;
 use crate::shown::text;
+use cases::bytes::long_at;
+use cases::bytes::number_at;
+use cases::bytes::plus;
 
 // Records and questions so far, and differences shown.
 struct Run {
@@ -141,7 +137,7 @@ fn whole(
     }
 }
 
-fn turn(
+fn next_record(
     fd: i32,
     run: Run,
     record: &mut [u8],
@@ -212,7 +208,7 @@ fn records(
     };
     let mut turns = u64::MAX;
     while turns > 0 {
-        match turn(
+        match next_record(
             fd,
             run,
             record,

@@ -1,25 +1,25 @@
 // One record of a case file: its table, and its questions in turn.
 use crate::asked::answered;
-use crate::bytes::half_at;
-use crate::bytes::number_at;
-use crate::bytes::plus;
-use crate::bytes::word_at;
-use crate::floats::float_of;
-use crate::layout::answer_bytes;
-use crate::layout::entry_bytes;
-use crate::layout::is_askable;
-use crate::layout::is_routine;
-use crate::layout::items;
-use crate::layout::question_bytes;
 use crate::lent::curv_written;
 use crate::lent::inverted;
 use crate::lent::para_written;
 use crate::lent::passed_through;
 use crate::lent::row_looked_up;
-use crate::outcome::Outcome;
-use crate::outcome::is_whole;
-use crate::outcome::missed;
 use crate::shown::difference;
+use cases::bytes::number_at;
+use cases::bytes::plus;
+use cases::bytes::word_at;
+use cases::layout::answer_bytes;
+use cases::layout::entry_bytes;
+use cases::layout::is_askable;
+use cases::layout::is_routine;
+use cases::layout::items;
+use cases::layout::question_bytes;
+use cases::lists::load_floats;
+use cases::lists::load_halves;
+use cases::outcome::Outcome;
+use cases::outcome::is_whole;
+use cases::outcome::missed;
 
 // Differences that are shown of a whole file.
 const SHOWN: usize = 5;
@@ -34,26 +34,6 @@ pub enum Went {
 enum Stepped {
     To(usize, usize),
     Wrong,
-}
-
-fn load_halves(record: &[u8], at: usize, table: &mut [u16]) {
-    let mut place = at;
-    let mut i = 0;
-    while i < table.len() {
-        table[i] = half_at(record, place);
-        place = plus(place, 2);
-        i += 1;
-    }
-}
-
-fn load_floats(record: &[u8], at: usize, list: &mut [f32]) {
-    let mut place = at;
-    let mut i = 0;
-    while i < list.len() {
-        list[i] = float_of(word_at(record, place));
-        place = plus(place, 4);
-        i += 1;
-    }
 }
 
 // A record's number in the file, its routine, its entries and its questions.
@@ -169,6 +149,11 @@ fn step(
     if next > record.len() {
         return Stepped::Wrong;
     }
+    if next == answer {
+        if refusal == 0 {
+            return Stepped::Wrong;
+        }
+    }
     if mark > 255 {
         return Stepped::Wrong;
     }
@@ -280,7 +265,7 @@ fn on_table(
     tag: &mut [u8],
     counts: &mut [usize; 34],
 ) -> Went {
-    load_halves(record, 16, table);
+    load_halves(record, 16, 2, table);
     let start = plus(16, plus(table.len(), table.len()));
     let none = [0.0f32; 1];
     let went = in_turn(

@@ -1,5 +1,5 @@
 // What a call of the library answered, in words as a case file has them.
-use crate::floats::pattern;
+use cases::floats::pattern;
 use interp::Interpolated;
 use lookup::Coded;
 use matan::Degenerated;

@@ -1,9 +1,9 @@
 // What is printed: an answer that is not the one wanted, and counts.
-use crate::bytes::plus;
-use crate::bytes::word_at;
-use crate::layout::question_bytes;
-use crate::outcome::Outcome;
-use crate::outcome::Said;
+use cases::bytes::plus;
+use cases::bytes::word_at;
+use cases::layout::question_bytes;
+use cases::outcome::Answer;
+use cases::outcome::Outcome;
 use libc::STDOUT_FILENO;
 
 pub fn text(words: &[u8]) {
@@ -68,7 +68,7 @@ fn question(routine: usize, record: &[u8], at: usize) {
     let end = plus(at, question_bytes(routine));
     let is_float = asks_floats(routine);
     let mut place = at;
-    let mut left = 18;
+    let mut left: usize = 18;
     while left > 0 {
         if place < end {
             text(b" ");
@@ -79,7 +79,7 @@ fn question(routine: usize, record: &[u8], at: usize) {
     }
 }
 
-fn answer(routine: usize, said: Said) {
+fn answer(routine: usize, said: Answer) {
     if said.refusal == 0 {
         word(said.word, answers_floats(routine));
         return;
