@@ -108,9 +108,9 @@ fn whole(
     table: &mut [u16],
     list: &mut [f32],
     positions: &mut [u16],
-    halves: &mut [u16],
-    floats: &mut [f32],
-    tag: &mut [u8],
+    halves: &mut [u16; 65537],
+    floats: &mut [f32; 65537],
+    tag: &mut [u8; 131086],
     counts: &mut [usize; 34],
 ) -> Turn {
     if length > record.len() {
@@ -140,13 +140,13 @@ fn whole(
 fn next_record(
     fd: i32,
     run: Run,
-    record: &mut [u8],
-    table: &mut [u16],
-    list: &mut [f32],
-    positions: &mut [u16],
-    halves: &mut [u16],
-    floats: &mut [f32],
-    tag: &mut [u8],
+    record: &mut [u8; 524288],
+    table: &mut [u16; 65537],
+    list: &mut [f32; 65537],
+    positions: &mut [u16; 65537],
+    halves: &mut [u16; 65537],
+    floats: &mut [f32; 65537],
+    tag: &mut [u8; 131086],
     counts: &mut [usize; 34],
 ) -> Turn {
     if !read_head(fd, record) {
@@ -192,13 +192,13 @@ fn next_record(
 
 fn records(
     fd: i32,
-    record: &mut [u8],
-    table: &mut [u16],
-    list: &mut [f32],
-    positions: &mut [u16],
-    halves: &mut [u16],
-    floats: &mut [f32],
-    tag: &mut [u8],
+    record: &mut [u8; 524288],
+    table: &mut [u16; 65537],
+    list: &mut [f32; 65537],
+    positions: &mut [u16; 65537],
+    halves: &mut [u16; 65537],
+    floats: &mut [f32; 65537],
+    tag: &mut [u8; 131086],
     counts: &mut [usize; 34],
 ) {
     let mut run = Run {

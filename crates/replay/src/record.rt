@@ -100,9 +100,9 @@ fn asked_one(
     record: &[u8],
     table: &[u16],
     list: &[f32],
-    halves: &mut [u16],
-    floats: &mut [f32],
-    tag: &mut [u8],
+    halves: &mut [u16; 65537],
+    floats: &mut [f32; 65537],
+    tag: &mut [u8; 131086],
 ) -> Outcome {
     match routine {
         4 => asked_inverted(q, record, table, halves),
@@ -131,9 +131,9 @@ fn step(
     record: &[u8],
     table: &[u16],
     list: &[f32],
-    halves: &mut [u16],
-    floats: &mut [f32],
-    tag: &mut [u8],
+    halves: &mut [u16; 65537],
+    floats: &mut [f32; 65537],
+    tag: &mut [u8; 131086],
     counts: &mut [usize; 34],
 ) -> Stepped {
     let routine = head.routine;
@@ -180,9 +180,9 @@ fn in_turn(
     record: &[u8],
     table: &[u16],
     list: &[f32],
-    halves: &mut [u16],
-    floats: &mut [f32],
-    tag: &mut [u8],
+    halves: &mut [u16; 65537],
+    floats: &mut [f32; 65537],
+    tag: &mut [u8; 131086],
     counts: &mut [usize; 34],
 ) -> Went {
     let questions = head.questions;
@@ -260,9 +260,9 @@ fn on_table(
     record: &[u8],
     table: &mut [u16],
     positions: &mut [u16],
-    halves: &mut [u16],
-    floats: &mut [f32],
-    tag: &mut [u8],
+    halves: &mut [u16; 65537],
+    floats: &mut [f32; 65537],
+    tag: &mut [u8; 131086],
     counts: &mut [usize; 34],
 ) -> Went {
     load_halves(record, 16, 2, table);
@@ -295,9 +295,9 @@ fn on_list(
     shown: usize,
     record: &[u8],
     list: &mut [f32],
-    halves: &mut [u16],
-    floats: &mut [f32],
-    tag: &mut [u8],
+    halves: &mut [u16; 65537],
+    floats: &mut [f32; 65537],
+    tag: &mut [u8; 131086],
     counts: &mut [usize; 34],
 ) -> Went {
     load_floats(record, 16, list);
@@ -325,9 +325,9 @@ pub fn replayed(
     table: &mut [u16],
     list: &mut [f32],
     positions: &mut [u16],
-    halves: &mut [u16],
-    floats: &mut [f32],
-    tag: &mut [u8],
+    halves: &mut [u16; 65537],
+    floats: &mut [f32; 65537],
+    tag: &mut [u8; 131086],
     counts: &mut [usize; 34],
 ) -> Went {
     let n = head.entries;
@@ -371,9 +371,9 @@ fn on_nothing(
     head: Head,
     shown: usize,
     record: &[u8],
-    halves: &mut [u16],
-    floats: &mut [f32],
-    tag: &mut [u8],
+    halves: &mut [u16; 65537],
+    floats: &mut [f32; 65537],
+    tag: &mut [u8; 131086],
     counts: &mut [usize; 34],
 ) -> Went {
     if head.entries != 0 {
