@@ -31,7 +31,7 @@ pub fn lut_interp_linear(table: &[u16], x: f64) -> Result<f32, Refusal> {
     granted(answer.refusal).map(|()| answer.value)
 }
 
-/// The table that passes its input through: entry i is i over the last index.
+/// The table that passes its input through: entry i is i times the reciprocal of the last index, worked in f64, as the nearest f32.
 ///
 /// ```
 /// let mut table = [0.0; 5];
