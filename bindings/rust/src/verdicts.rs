@@ -5,9 +5,9 @@ use crate::{Refusal, raw};
 /// Which way a curve is to go.
 #[derive(Clone, Copy, Debug, PartialEq, Eq, Hash)]
 pub enum Direction {
-    /// From dark to light: a fall is a violation.
+    /// Each entry is at or above the one before: a fall is a violation.
     Rising,
-    /// The other way: a rise is a violation.
+    /// Each entry is at or below the one before: a rise is a violation.
     Falling,
 }
 
