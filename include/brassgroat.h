@@ -123,8 +123,8 @@ uint32_t bg_least_input_row(const uint16_t *table, size_t table_len,
 bg_position bg_lut_inverse_interp16(const uint16_t *table, size_t table_len, bg_density density);
 
 /*
- * The table inverted by bg_lut_inverse_interp16: out[i] is the drive for the density i * 65535 / (out_len - 1), rounded.
- * Refused: 1; 12 where out_len is outside 2 to 65,536.
+ * The table inverted by bg_lut_inverse_interp16: out[i] is the drive for the density i * (65535 / (out_len - 1)), worked in
+ * doubles and rounded. Refused: 1; 12 where out_len is outside 2 to 65,536.
  */
 uint32_t bg_invert_lut(const uint16_t *table, size_t table_len, uint16_t *out, size_t out_len);
 
@@ -139,7 +139,10 @@ bg_real bg_lut_interp_linear_float(const float *table, size_t table_len, float x
  */
 bg_real bg_lut_interp_linear(const uint16_t *table, size_t table_len, double x);
 
-/* The table that passes its input through: out[i] is i / (out_len - 1). Refused: 12 where out_len is outside 2 to 65,536. */
+/*
+ * The table that passes its input through: out[i] is i * (1 / (out_len - 1)), worked in doubles, as the nearest float.
+ * Refused: 12 where out_len is outside 2 to 65,536.
+ */
 uint32_t bg_passthrough_table_impl(float *out, size_t out_len);
 
 /* The float nearest to x, a tie to the even one. Never refused. */
@@ -156,7 +159,10 @@ float bg_s15_fixed16_number_to_float(int32_t x);
 /* The curve unified from 1, 3, 4, 5 or 7 parameters in the order g a b c d e f (of four: g a b, and e = f). Refused: 7. */
 bg_parametric bg_parametric_curve_new(const float *params, size_t params_len);
 
-/* Whether no two parameters at one place are further apart than 1e-4, over the shorter length. Never refused. */
+/*
+ * Whether no two parameters at one place are further apart than 1e-4f, over the shorter length; a NaN difference counts as close.
+ * Never refused.
+ */
 bool bg_compare_parametric(const float *src, size_t src_len, const float *dst, size_t dst_len);
 
 /* ---- Verdicts (crate matan) ---- */
@@ -198,7 +204,10 @@ uint32_t bg_curv_read(const uint8_t *tag, size_t tag_len, uint16_t *out, size_t 
  */
 bg_part bg_curv_part(const uint8_t *tag, size_t tag_len);
 
-/* Writes a table, which may be empty, as a curv tag. Refused: 1 where table_len is above 65,536; 6 where out_len is not 12 + 2 * table_len. */
+/*
+ * Writes a table, which may be empty, as a curv tag. Refused: 1 where table_len is above 65,536; 6 where out_len is not
+ * 12 + 2 * table_len.
+ */
 uint32_t bg_curv_write(const uint16_t *table, size_t table_len, uint8_t *out, size_t out_len);
 
 /*

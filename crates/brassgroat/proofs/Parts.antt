@@ -1,4 +1,4 @@
--- The part of a tag as it crosses: from the library's part, and one answer only. Assumes nothing.
+-- The part of a tag as it crosses, made of the library's part. Assumes nothing.
 use Prim.Native.Nat.{ℕ}
 use mathlib.Core.Path.{_≡_, refl, sym, ap, subst, _∙_}
 use mathlib.Core.List.{List, []}

@@ -49,17 +49,17 @@ pub fn as_raw(from: Numbers) -> Raw
     }
 }
 
-pub fn from_raw(from: Raw) -> Numbers
-    ensures { λ r. ⌜ r ≡ fromRaw from ⌝ }
+pub fn from_raw(raw: Raw) -> Numbers
+    ensures { λ r. ⌜ r ≡ fromRaw raw ⌝ }
 {
     Numbers {
-        g: from.g,
-        a: from.a,
-        b: from.b,
-        c: from.c,
-        d: from.d,
-        e: from.e,
-        f: from.f,
+        g: raw.g,
+        a: raw.a,
+        b: raw.b,
+        c: raw.c,
+        d: raw.d,
+        e: raw.e,
+        f: raw.f,
     }
 }
 
@@ -103,8 +103,8 @@ pub extern "C" fn bg_para_curve(tag: &[u8]) -> Parametric
 }
 
 #[no_mangle]
-pub extern "C" fn bg_para_write(kind: usize, from: Raw, out: &mut [u8]) -> u32
-    ensures { λ r. ⌜ Carried numberOfDone (λ d. WritePromise kind (fromRaw from) (now (out .entry)) d (now (out .exit))) r ⌝ }
+pub extern "C" fn bg_para_write(kind: usize, numbers: Raw, out: &mut [u8]) -> u32
+    ensures { λ r. ⌜ Carried numberOfDone (λ d. WritePromise kind (fromRaw numbers) (now (out .entry)) d (now (out .exit))) r ⌝ }
 {
-    number_of_done(write_para(kind, from_raw(from), out))
+    number_of_done(write_para(kind, from_raw(numbers), out))
 }
