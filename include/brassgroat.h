@@ -70,7 +70,7 @@ typedef struct { uint32_t refusal; bg_curve curve; } bg_parametric;
 typedef struct { int32_t g, a, b, c, d, e, f; } bg_raw;
 typedef struct { uint32_t refusal; size_t count; bg_raw numbers; } bg_para;
 
-/* ---- Looking up (crate lookup) ---- */
+/* ---- Looking up (crates lookup and gamma) ---- */
 
 /* The density at a position, by linear interpolation rounded down. Refused: 1. */
 bg_sample bg_lut_interp_linear16(const uint16_t *table, size_t table_len, bg_drive position);
@@ -106,7 +106,7 @@ uint32_t bg_accept(const uint16_t *table, size_t table_len);
 /* Sets one entry, where the density fits between its neighbours, and changes no other. Refused: 1; 3; 2; 4. */
 uint32_t bg_nudge(uint16_t *table, size_t table_len, size_t index, bg_density density);
 
-/* ---- From density back to drive (crates least and inverse) ---- */
+/* ---- From density back to drive (crates least, inverse and invert) ---- */
 
 /* The smallest position whose density is at least the one given. Refused: 1; 2; 5 where no position reaches it. */
 bg_position bg_least_input(const uint16_t *table, size_t table_len, bg_density density);
@@ -187,7 +187,7 @@ bg_sample bg_house_entry(size_t index);
 /* All entries. Refused: 6 where out_len is not 1,024. */
 uint32_t bg_house_fill(uint16_t *out, size_t out_len);
 
-/* ---- ICC tags (crates curv and para); tag_len counts bytes ---- */
+/* ---- ICC tags (crates curv, curv_writer, para and para_writer); tag_len counts bytes ---- */
 
 /*
  * How many entries a curv tag has. Refused: 8 where the tag has fewer than 12 bytes; 9; 10; 1 where the count is above 65,536;
