@@ -7,15 +7,15 @@ mod record;
 mod said;
 mod shown;
 
+use cases::bytes::long_at;
+use cases::bytes::number_at;
+use cases::bytes::plus;
 use crate::record::Head;
 use crate::record::Went;
 use crate::record::replayed;
 use crate::shown::counts_line;
 use crate::shown::number;
 use crate::shown::text;
-use cases::bytes::long_at;
-use cases::bytes::number_at;
-use cases::bytes::plus;
 
 // Records and questions so far, and differences shown.
 struct Run {

@@ -1,11 +1,4 @@
 // One record of a case file: its table, and its questions in turn.
-use crate::asked::answered;
-use crate::lent::curv_written;
-use crate::lent::inverted;
-use crate::lent::para_written;
-use crate::lent::passed_through;
-use crate::lent::row_looked_up;
-use crate::shown::difference;
 use cases::bytes::number_at;
 use cases::bytes::plus;
 use cases::bytes::word_at;
@@ -20,6 +13,13 @@ use cases::lists::load_halves;
 use cases::outcome::Outcome;
 use cases::outcome::is_whole;
 use cases::outcome::missed;
+use crate::asked::answered;
+use crate::lent::curv_written;
+use crate::lent::inverted;
+use crate::lent::para_written;
+use crate::lent::passed_through;
+use crate::lent::row_looked_up;
+use crate::shown::difference;
 
 // Differences that are shown of a whole file.
 const SHOWN: usize = 5;
