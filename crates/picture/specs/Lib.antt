@@ -3,4 +3,6 @@
 pub mod Place
 pub mod Reach
 pub mod Plot
+pub mod Svg
 pub mod Digits
+pub mod Promises

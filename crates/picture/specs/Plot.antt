@@ -1,5 +1,5 @@
 -- What stands in a column of the plot at a row. Assumes nothing.
-use Prim.Native.Nat.{ℕ, _+_, _-_, _*_, _≤_}
+use Prim.Native.Nat.{ℕ, _+_, _-_, _*_, _≤_, _<_}
 use mathlib.Core.Path.{_≡_}
 use mathlib.Core.Bool.{Bool, true, false}
 use mathlib.Core.List.{List}
@@ -48,3 +48,9 @@ pub record Marked (t : List ℕ) (c row b : ℕ) : Type 0 where
   pub right : (row ≡ starRow t c → ⊥) → starRight t c row ≡ true → b ≡ 32
   pub passed : (row ≡ starRow t c → ⊥) → starLeft t c row ≡ false → starRight t c row ≡ false → Passed t c row → b ≡ 58
   pub blank : (row ≡ starRow t c → ⊥) → (Passed t c row → ⊥) → b ≡ 32
+
+-- the length of a line of the plot: within the lent buffer, and 0 exactly where there is no such line
+pub record LineLength (row r : ℕ) : Type 0 where
+  pub room : r ≤ 128
+  pub some : row < 22 → 1 ≤ r
+  pub none : 22 ≤ row → r ≡ 0

@@ -13,7 +13,7 @@ use table::Density;
 use table::Drive;
 ghost use mathlib.Core.Path.{_≡_};
 ghost use Prim.Native.Nat.{_≤_, _<_};
-ghost use Rattle.picture.specs.Plot.{starRow, lastOf, Passed, Tells, starLeft, starRight, Marked};
+ghost use Rattle.picture.specs.Plot.{starRow, lastOf, Passed, Tells, starLeft, starRight, Marked, LineLength};
 
 // The rows, the axis and the scale.
 pub const LINES: usize = 22;
@@ -126,6 +126,8 @@ fn put_margin(out: &mut [u8; 128], text: [u8; 9]) {
 // A line ends at its last mark.
 fn end_after(end: usize, at: usize, b: u8) -> usize
     requires { ⌜ at < 128 ⌝ }
+    requires { ⌜ (1 ≤ end) × (end ≤ 128) ⌝ }
+    ensures { λ r. ⌜ (1 ≤ r) × (r ≤ 128) ⌝ }
 {
     if b == b' ' {
         return end;
@@ -133,7 +135,9 @@ fn end_after(end: usize, at: usize, b: u8) -> usize
     at + 1
 }
 
-fn row_line(table: &[u16], row: usize, out: &mut [u8; 128]) -> usize {
+fn row_line(table: &[u16], row: usize, out: &mut [u8; 128]) -> usize
+    ensures { λ r. ⌜ (1 ≤ r) × (r ≤ 128) ⌝ }
+{
     put_margin(out, margin(row));
     let mut end = MARGIN;
     let mut column = 0;
@@ -158,7 +162,9 @@ fn tick(column: usize) -> u8 {
     b'-'
 }
 
-fn axis_line(out: &mut [u8; 128]) -> usize {
+fn axis_line(out: &mut [u8; 128]) -> usize
+    ensures { λ r. ⌜ r ≡ 73 ⌝ }
+{
     put_margin(out, *b"        +");
     let mut column = 0;
     while column < COLUMNS {
@@ -169,7 +175,9 @@ fn axis_line(out: &mut [u8; 128]) -> usize {
 }
 
 // The drives that the scale names, each below its column.
-fn scale_line(out: &mut [u8; 128]) -> usize {
+fn scale_line(out: &mut [u8; 128]) -> usize
+    ensures { λ r. ⌜ r ≡ 73 ⌝ }
+{
     let text = *b"         0             drive           32768                        65535";
     let mut i = 0;
     while i < MARGIN + COLUMNS {
@@ -179,7 +187,9 @@ fn scale_line(out: &mut [u8; 128]) -> usize {
     MARGIN + COLUMNS
 }
 
-pub fn line(table: &[u16], row: usize, out: &mut [u8; 128]) -> usize {
+pub fn line(table: &[u16], row: usize, out: &mut [u8; 128]) -> usize
+    ensures { λ r. ⌜ LineLength row r ⌝ }
+{
     if row < ROWS {
         return row_line(table, row, out);
     }

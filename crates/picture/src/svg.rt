@@ -17,6 +17,7 @@ use table::spanned;
 ghost use Prim.Native.Nat.{_+_, _≤_, _<_};
 ghost use mathlib.Core.Path.{_≡_};
 ghost use lib.ListN.{length};
+ghost use Rattle.picture.specs.Svg.{ringsOf, piecesOf, Filled};
 
 // The head's pieces, of which five are ticks; a piece for each span of drives; one for the last point; one for each ring; and the end.
 const FIRST_TICK: usize = 4;
@@ -35,7 +36,7 @@ const FIRST_RING: usize = 1297;
 const SPAN: usize = 51;
 
 fn rings(entries: usize) -> usize
-    ensures { λ r. ⌜ (r ≤ 64) × (r ≤ entries) ⌝ }
+    ensures { λ r. ⌜ (r ≡ ringsOf entries) × (r ≤ 64) × (r ≤ entries) ⌝ }
 {
     if entries <= 64 {
         return entries;
@@ -43,7 +44,9 @@ fn rings(entries: usize) -> usize
     0
 }
 
-pub fn pieces(entries: usize) -> usize {
+pub fn pieces(entries: usize) -> usize
+    ensures { λ r. ⌜ r ≡ piecesOf entries ⌝ }
+{
     FIRST_RING + rings(entries) + 1
 }
 
@@ -61,7 +64,7 @@ fn put(out: &mut [u8; 512], at: usize, text: &[u8]) -> usize
 
 fn put_number(out: &mut [u8; 512], at: usize, n: usize) -> usize
     requires { ⌜ (at + 5 ≤ 512) × (n < 100000) ⌝ }
-    ensures { λ r. ⌜ r ≤ at + 5 ⌝ }
+    ensures { λ r. ⌜ (at < r) × (r ≤ at + 5) ⌝ }
 {
     let count = digits::count(n);
     let mut i = 0;
@@ -72,7 +75,9 @@ fn put_number(out: &mut [u8; 512], at: usize, n: usize) -> usize
     at + count
 }
 
-fn open(out: &mut [u8; 512]) -> usize {
+fn open(out: &mut [u8; 512]) -> usize
+    ensures { λ r. ⌜ Filled r ⌝ }
+{
     put(
         out,
         0,
@@ -82,6 +87,7 @@ fn open(out: &mut [u8; 512]) -> usize {
 
 fn description(entries: usize, out: &mut [u8; 512]) -> usize
     requires { ⌜ entries ≤ 65536 ⌝ }
+    ensures { λ r. ⌜ Filled r ⌝ }
 {
     let a = put(out, 0, b"<desc>Density over drive. Entries of the table: ");
     let b = put_number(out, a, entries);
@@ -92,7 +98,9 @@ fn description(entries: usize, out: &mut [u8; 512]) -> usize
     )
 }
 
-fn style(out: &mut [u8; 512]) -> usize {
+fn style(out: &mut [u8; 512]) -> usize
+    ensures { λ r. ⌜ Filled r ⌝ }
+{
     put(
         out,
         0,
@@ -100,7 +108,9 @@ fn style(out: &mut [u8; 512]) -> usize {
     )
 }
 
-fn dark_style(out: &mut [u8; 512]) -> usize {
+fn dark_style(out: &mut [u8; 512]) -> usize
+    ensures { λ r. ⌜ Filled r ⌝ }
+{
     put(
         out,
         0,
@@ -121,7 +131,7 @@ fn tick_value(k: usize) -> u16 {
 
 // A line across the drawing at a drive, and the number below it.
 fn put_drive_tick(out: &mut [u8; 512], p: Drive) -> usize
-    ensures { λ r. ⌜ r ≤ 120 ⌝ }
+    ensures { λ r. ⌜ r ≤ 150 ⌝ }
 {
     let a = put(out, 0, b"<path class=\"grid\" d=\"M");
     let b = put_number(out, a, across(p));
@@ -134,7 +144,8 @@ fn put_drive_tick(out: &mut [u8; 512], p: Drive) -> usize
 
 // The same at a density, with the number left of it.
 fn put_density_tick(out: &mut [u8; 512], at: usize, d: Density) -> usize
-    requires { ⌜ at ≤ 120 ⌝ }
+    requires { ⌜ at ≤ 150 ⌝ }
+    ensures { λ r. ⌜ Filled r ⌝ }
 {
     let a = put(out, at, b"<path class=\"grid\" d=\"M0,");
     let b = put_number(out, a, down(d));
@@ -146,13 +157,16 @@ fn put_density_tick(out: &mut [u8; 512], at: usize, d: Density) -> usize
 }
 
 // A number on both scales.
-fn tick(value: u16, out: &mut [u8; 512]) -> usize {
+fn tick(value: u16, out: &mut [u8; 512]) -> usize
+    ensures { λ r. ⌜ Filled r ⌝ }
+{
     let at = put_drive_tick(out, Drive(value));
     put_density_tick(out, at, Density(value))
 }
 
 fn labels(entries: usize, out: &mut [u8; 512]) -> usize
     requires { ⌜ entries ≤ 65536 ⌝ }
+    ensures { λ r. ⌜ Filled r ⌝ }
 {
     let a = put(
         out,
@@ -163,12 +177,15 @@ fn labels(entries: usize, out: &mut [u8; 512]) -> usize
     put(out, b, b"</text>\n")
 }
 
-fn curve_open(out: &mut [u8; 512]) -> usize {
+fn curve_open(out: &mut [u8; 512]) -> usize
+    ensures { λ r. ⌜ Filled r ⌝ }
+{
     put(out, 0, b"<polyline class=\"curve\" points=\"")
 }
 
 fn head(entries: usize, k: usize, out: &mut [u8; 512]) -> usize
     requires { ⌜ entries ≤ 65536 ⌝ }
+    ensures { λ r. ⌜ Filled r ⌝ }
 {
     match k {
         0 => open(out),
@@ -184,7 +201,7 @@ fn head(entries: usize, k: usize, out: &mut [u8; 512]) -> usize
 // A point of the curve's line, after a blank or a new line.
 fn put_point(out: &mut [u8; 512], at: usize, before: u8, p: Drive, d: Density) -> usize
     requires { ⌜ at ≤ 500 ⌝ }
-    ensures { λ r. ⌜ r ≤ at + 12 ⌝ }
+    ensures { λ r. ⌜ (at < r) × (r ≤ at + 12) ⌝ }
 {
     out[at] = before;
     let a = put_number(out, at + 1, across(p));
@@ -221,7 +238,7 @@ fn put_outside(
     last: Density,
 ) -> usize
     requires { ⌜ at ≤ 500 ⌝ }
-    ensures { λ r. ⌜ r ≤ at + 12 ⌝ }
+    ensures { λ r. ⌜ (at ≤ r) × (r ≤ at + 12) ⌝ }
 {
     if !outside(d, first, last) {
         return at;
@@ -231,7 +248,8 @@ fn put_outside(
 
 // The lowest and the highest point of a span, the earlier one first.
 fn put_between(out: &mut [u8; 512], at: usize, r: Reach, first: Density, last: Density) -> usize
-    requires { ⌜ at ≤ 12 ⌝ }
+    requires { ⌜ (1 ≤ at) × (at ≤ 12) ⌝ }
+    ensures { λ r. ⌜ Filled r ⌝ }
 {
     let valley = r.valley;
     let low = r.low;
@@ -248,6 +266,7 @@ fn put_between(out: &mut [u8; 512], at: usize, r: Reach, first: Density, last: D
 // A span's first point, and those between its ends.
 fn span(table: &[u16], k: usize, out: &mut [u8; 512]) -> usize
     requires { ⌜ k < 1285 ⌝ }
+    ensures { λ r. ⌜ Filled r ⌝ }
 {
     let from = k * SPAN;
     let to = from + SPAN;
@@ -258,7 +277,9 @@ fn span(table: &[u16], k: usize, out: &mut [u8; 512]) -> usize
     put_between(out, at, reach_over(table, from, to), first, last)
 }
 
-fn last_point(table: &[u16], out: &mut [u8; 512]) -> usize {
+fn last_point(table: &[u16], out: &mut [u8; 512]) -> usize
+    ensures { λ r. ⌜ Filled r ⌝ }
+{
     let p = Drive(65535);
     let at = put_point(out, 0, b' ', p, density_at(table, p));
     put(out, at, b"\"/>\n")
@@ -276,6 +297,7 @@ fn entry_drive(entries: usize, i: usize) -> Drive
 
 fn ring(table: &[u16], i: usize, out: &mut [u8; 512]) -> usize
     requires { ⌜ i < length (now table) ⌝ }
+    ensures { λ r. ⌜ Filled r ⌝ }
 {
     let p = entry_drive(table.len(), i);
     let d = Density(table[i]);
@@ -288,6 +310,7 @@ fn ring(table: &[u16], i: usize, out: &mut [u8; 512]) -> usize
 
 pub fn piece(table: &[u16], k: usize, out: &mut [u8; 512]) -> usize
     requires { ⌜ length (now table) ≤ 65536 ⌝ }
+    ensures { λ r. ⌜ Filled r ⌝ }
 {
     if k < FIRST_SPAN {
         return head(table.len(), k, out);

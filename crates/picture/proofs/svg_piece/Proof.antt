@@ -1,6 +1,8 @@
--- `svg_piece` meets its contract: past the test the table is not too long. Assumes nothing.
-use Rattle.table.proofs.Choice.{holds}
+-- `svg_piece` meets its promise: the two tests, and past them the piece. Assumes nothing.
+use Rattle.table.proofs.Choice.{fails, holds}
 use Rattle.table.proofs.Sizes.{within-high}
+use native.Mathlib.Omega.{arith}
+use Rattle.picture.proofs.Lengths.{piece-refused, piece-beyond, piece-given}
 use borrow.Author.Needs.{needs}
 use Rattle.picture.proofs.svg_piece.Statement.{statement}
 use Rattle.picture.proofs.svg_piece.Tie as tie
@@ -9,13 +11,15 @@ sized-requires : tie.Need-sized-requires
 sized-requires c κs = search needs
 
 returns : tie.Need-returns
-returns c = search needs
+returns c = piece-refused _ (fails (c .before .sized .ensures) (c .if1 .taken)) _
 
 pieces-requires : tie.Need-pieces-requires
 pieces-requires c κs = search needs
 
 returns-2 : tie.Need-returns-2
-returns-2 c = search needs
+returns-2 c =
+    let past = c .before .before in
+    piece-beyond _ (holds (past .before .sized .ensures) (past .if1 .left)) _ (rw (c .before .pieces .ensures) at (c .if2 .taken))
 
 piece-requires : tie.Need-piece-requires
 piece-requires c κs =
@@ -23,7 +27,10 @@ piece-requires c κs =
     within-high 1 65536 _ (holds (past .before .sized .ensures) (past .if1 .left))
 
 returns-3 : tie.Need-returns-3
-returns-3 c = search needs
+returns-3 c =
+    let left = c .before .before in
+    let past = left .before .before in
+    piece-given _ (holds (past .before .sized .ensures) (past .if1 .left)) _ _ (rw (left .before .pieces .ensures) at (left .if2 .left)) (c .piece .ensures)
 
 pub svg-piece-spec : {M : Type 1} → statement M
 svg-piece-spec =

@@ -39,7 +39,7 @@ add-result : tie.Need-add-result Inv-loop μ-loop
 add-result c = omega arith
 
 returns : tie.Need-returns Inv-loop μ-loop
-returns c = tt
+returns c = omega arith
 
 pub axis-line-spec : {M : Type 1} → statement M
 axis-line-spec =

@@ -6,7 +6,7 @@ use Rattle.picture.proofs.plot.row_line.Statement.{statement}
 use Rattle.picture.proofs.plot.row_line.Tie as tie
 
 abbrev Inv-loop : tie.InvT-loop
-Inv-loop table row out₀ end₀ column₀ out end column = column ≤ 64
+Inv-loop table row out₀ end₀ column₀ out end column = (column ≤ 64) × (1 ≤ end) × (end ≤ 128)
 
 abbrev μ-loop : tie.MeasureT-loop
 μ-loop table row out₀ end₀ column₀ out end column = 64 - column
@@ -42,7 +42,7 @@ loop-again : tie.Need-loop-again Inv-loop μ-loop
 loop-again c = omega arith
 
 returns : tie.Need-returns Inv-loop μ-loop
-returns c = tt
+returns c = omega arith
 
 pub row-line-spec : {M : Type 1} → statement M
 row-line-spec =
