@@ -41,15 +41,15 @@ pub fn drive_of(column: usize) -> Drive
 }
 
 // The svg's x of a drive.
-pub fn across(p: Drive) -> usize
-    ensures { λ r. ⌜ (r ≡ p .0) × (r ≤ 65535) ⌝ }
+pub fn across(drive: Drive) -> usize
+    ensures { λ r. ⌜ (r ≡ drive .0) × (r ≤ 65535) ⌝ }
 {
-    wide(p.0)
+    wide(drive.0)
 }
 
 // The svg's y of a density.
-pub fn down(d: Density) -> usize
-    ensures { λ r. ⌜ (r ≡ downOf (d .0)) × (r ≤ 65535) ⌝ }
+pub fn down(density: Density) -> usize
+    ensures { λ r. ⌜ (r ≡ downOf (density .0)) × (r ≤ 65535) ⌝ }
 {
-    65535 - wide(d.0)
+    65535 - wide(density.0)
 }

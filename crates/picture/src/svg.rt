@@ -22,7 +22,7 @@ ghost use Rattle.picture.specs.Svg.{ringsOf, piecesOf, Filled};
 // The head's pieces, of which five are ticks; a piece for each span of drives; one for the last point; one for each ring; and the end.
 const FIRST_TICK: usize = 4;
 
-const LABELS: usize = 9;
+const AXES: usize = 9;
 
 const CURVE: usize = 10;
 
@@ -75,6 +75,15 @@ fn put_number(out: &mut [u8; 512], at: usize, n: usize) -> usize
     at + count
 }
 
+// A text, and a number after it.
+fn put_with(out: &mut [u8; 512], at: usize, text: &[u8], n: usize) -> usize
+    requires { ⌜ (at + length (now text) + 5 ≤ 512) × (n < 100000) ⌝ }
+    ensures { λ r. ⌜ (at < r) × (r ≤ at + length (now (text .entry)) + 5) ⌝ }
+{
+    let a = put(out, at, text);
+    put_number(out, a, n)
+}
+
 fn open(out: &mut [u8; 512]) -> usize
     ensures { λ r. ⌜ Filled r ⌝ }
 {
@@ -89,12 +98,11 @@ fn description(entries: usize, out: &mut [u8; 512]) -> usize
     requires { ⌜ entries ≤ 65536 ⌝ }
     ensures { λ r. ⌜ Filled r ⌝ }
 {
-    let a = put(out, 0, b"<desc>Density over drive. Entries of the table: ");
-    let b = put_number(out, a, entries);
+    let a = put_with(out, 0, b"<desc>Entries of the table: ", entries);
     put(
         out,
-        b,
-        b". In the curve's line x is the drive, and y is 65535 less the density.</desc>\n",
+        a,
+        b". In the curve's line x is the drive, y is 65535 less the density.</desc>\n",
     )
 }
 
@@ -104,7 +112,7 @@ fn style(out: &mut [u8; 512]) -> usize
     put(
         out,
         0,
-        b"<style>\nsvg{background:#fff}\n.paper{fill:#fff}\ntext{fill:#1b1b1b;font:1700px sans-serif}\n.grid{stroke:#d4d4d4;stroke-width:80}\n.axis{fill:none;stroke:#1b1b1b;stroke-width:140}\n.curve{fill:none;stroke:#0057b8;stroke-width:260;stroke-linejoin:round}\n.entry{fill:#fff;stroke:#0057b8;stroke-width:180}\n",
+        b"<style>\nsvg{background:#fff}\ntext{fill:#1b1b1b;font:1700px sans-serif}\n.grid{stroke:#d4d4d4;stroke-width:80}\n.axis{fill:none;stroke:#1b1b1b;stroke-width:140}\n.curve{fill:none;stroke:#0057b8;stroke-width:260;stroke-linejoin:round}\n.entry{fill:#fff;stroke:#0057b8;stroke-width:180}\n",
     )
 }
 
@@ -114,7 +122,7 @@ fn dark_style(out: &mut [u8; 512]) -> usize
     put(
         out,
         0,
-        b"@media (prefers-color-scheme:dark){\nsvg{background:#14161a}\n.paper{fill:#14161a}\ntext{fill:#ececec}\n.grid{stroke:#3a3f47}\n.axis{stroke:#ececec}\n.curve{stroke:#6cb6ff}\n.entry{fill:#14161a;stroke:#6cb6ff}\n}\n</style>\n<rect class=\"paper\" x=\"-8000\" y=\"-4800\" width=\"76800\" height=\"76800\"/>\n",
+        b"@media (prefers-color-scheme:dark){\nsvg{background:#14161a}\ntext{fill:#ececec}\n.grid{stroke:#3a3f47}\n.axis{stroke:#ececec}\n.curve{stroke:#6cb6ff}\n.entry{fill:#14161a;stroke:#6cb6ff}\n}\n</style>\n",
     )
 }
 
@@ -133,13 +141,10 @@ fn tick_value(k: usize) -> u16 {
 fn put_drive_tick(out: &mut [u8; 512], p: Drive) -> usize
     ensures { λ r. ⌜ r ≤ 150 ⌝ }
 {
-    let a = put(out, 0, b"<path class=\"grid\" d=\"M");
-    let b = put_number(out, a, across(p));
-    let c = put(out, b, b",0V65535\"/>\n<text x=\"");
-    let d = put_number(out, c, across(p));
-    let e = put(out, d, b"\" y=\"68100\" text-anchor=\"middle\">");
-    let f = put_number(out, e, wide(p.0));
-    put(out, f, b"</text>\n")
+    let a = put_with(out, 0, b"<path class=\"grid\" d=\"M", across(p));
+    let b = put_with(out, a, b",0V65535\"/>\n<text x=\"", across(p));
+    let c = put_with(out, b, b"\" y=\"68100\" text-anchor=\"middle\">", wide(p.0));
+    put(out, c, b"</text>\n")
 }
 
 // The same at a density, with the number left of it.
@@ -147,13 +152,10 @@ fn put_density_tick(out: &mut [u8; 512], at: usize, d: Density) -> usize
     requires { ⌜ at ≤ 150 ⌝ }
     ensures { λ r. ⌜ Filled r ⌝ }
 {
-    let a = put(out, at, b"<path class=\"grid\" d=\"M0,");
-    let b = put_number(out, a, down(d));
-    let c = put(out, b, b"H65535\"/>\n<text x=\"-1100\" y=\"");
-    let e = put_number(out, c, down(d));
-    let f = put(out, e, b"\" dy=\".35em\" text-anchor=\"end\">");
-    let g = put_number(out, f, wide(d.0));
-    put(out, g, b"</text>\n")
+    let a = put_with(out, at, b"<path class=\"grid\" d=\"M0,", down(d));
+    let b = put_with(out, a, b"H65535\"/>\n<text x=\"-1100\" y=\"", down(d));
+    let c = put_with(out, b, b"\" dy=\".35em\" text-anchor=\"end\">", wide(d.0));
+    put(out, c, b"</text>\n")
 }
 
 // A number on both scales.
@@ -164,23 +166,28 @@ fn tick(value: u16, out: &mut [u8; 512]) -> usize
     put_density_tick(out, at, Density(value))
 }
 
-fn labels(entries: usize, out: &mut [u8; 512]) -> usize
+fn axes(out: &mut [u8; 512]) -> usize
+    ensures { λ r. ⌜ Filled r ⌝ }
+{
+    put(
+        out,
+        0,
+        b"<path class=\"axis\" d=\"M0,0V65535H65535\"/>\n<text x=\"32768\" y=\"70700\" text-anchor=\"middle\">drive</text>\n<text x=\"0\" y=\"-2000\" text-anchor=\"middle\">density</text>\n",
+    )
+}
+
+// How many entries the table has, and the start of the curve's line.
+fn curve_open(entries: usize, out: &mut [u8; 512]) -> usize
     requires { ⌜ entries ≤ 65536 ⌝ }
     ensures { λ r. ⌜ Filled r ⌝ }
 {
-    let a = put(
+    let a = put_with(
         out,
         0,
-        b"<path class=\"axis\" d=\"M0,0V65535H65535\"/>\n<text x=\"32768\" y=\"70700\" text-anchor=\"middle\">drive</text>\n<text x=\"0\" y=\"-2000\" text-anchor=\"middle\">density</text>\n<text x=\"65535\" y=\"-2000\" text-anchor=\"end\">entries: ",
+        b"<text x=\"65535\" y=\"-2000\" text-anchor=\"end\">entries: ",
+        entries,
     );
-    let b = put_number(out, a, entries);
-    put(out, b, b"</text>\n")
-}
-
-fn curve_open(out: &mut [u8; 512]) -> usize
-    ensures { λ r. ⌜ Filled r ⌝ }
-{
-    put(out, 0, b"<polyline class=\"curve\" points=\"")
+    put(out, a, b"</text>\n<polyline class=\"curve\" points=\"")
 }
 
 fn head(entries: usize, k: usize, out: &mut [u8; 512]) -> usize
@@ -192,8 +199,8 @@ fn head(entries: usize, k: usize, out: &mut [u8; 512]) -> usize
         1 => description(entries, out),
         2 => style(out),
         3 => dark_style(out),
-        LABELS => labels(entries, out),
-        CURVE => curve_open(out),
+        AXES => axes(out),
+        CURVE => curve_open(entries, out),
         _ => tick(tick_value(k - FIRST_TICK), out),
     }
 }
@@ -205,8 +212,7 @@ fn put_point(out: &mut [u8; 512], at: usize, before: u8, p: Drive, d: Density) -
 {
     out[at] = before;
     let a = put_number(out, at + 1, across(p));
-    let b = put(out, a, b",");
-    put_number(out, b, down(d))
+    put_with(out, a, b",", down(d))
 }
 
 // Ten spans stand on a line of the file.
@@ -301,11 +307,9 @@ fn ring(table: &[u16], i: usize, out: &mut [u8; 512]) -> usize
 {
     let p = entry_drive(table.len(), i);
     let d = Density(table[i]);
-    let a = put(out, 0, b"<circle class=\"entry\" cx=\"");
-    let b = put_number(out, a, across(p));
-    let c = put(out, b, b"\" cy=\"");
-    let e = put_number(out, c, down(d));
-    put(out, e, b"\" r=\"500\"/>\n")
+    let a = put_with(out, 0, b"<circle class=\"entry\" cx=\"", across(p));
+    let b = put_with(out, a, b"\" cy=\"", down(d));
+    put(out, b, b"\" r=\"500\"/>\n")
 }
 
 pub fn piece(table: &[u16], k: usize, out: &mut [u8; 512]) -> usize

@@ -1,36 +1,66 @@
-// Draws a few curves: what their plots are, and what their svg files hold.
+// Draws a few curves: their plots, and what the svg file of one holds, all but the middle of its long line of points, with a checksum of the whole.
 use libc::STDOUT_FILENO;
+ghost use Prim.Native.Nat.{_≤_};
 
 fn say(text: &[u8]) {
     io::write_all(STDOUT_FILENO, text);
 }
 
-// The whole plot of a table.
+fn plot_row(table: &[u16], row: usize) {
+    let mut line = [0u8; 128];
+    let n = picture::plot_line(table, row, &mut line);
+    say(&line[0..n]);
+    say(b"\n");
+}
+
 fn plot(name: &[u8], table: &[u16]) {
     say(name);
-    let mut line = [0u8; 128];
     let mut row = 0;
-    while row < picture::plot_rows() {
-        let n = picture::plot_line(table, row, &mut line);
-        if n <= 128 {
-            say(&line[0..n]);
-        }
-        say(b"\n");
+    while row < 22 {
+        plot_row(table, row);
         row += 1;
     }
 }
 
-// The whole svg file of a table.
-fn svg(table: &[u16]) {
+// The checksum with a piece more.
+fn with_piece(sum: u64, piece: &[u8; 512], n: usize) -> u64
+    requires { ⌜ n ≤ 512 ⌝ }
+{
+    let mut w = sum;
+    let mut i = 0;
+    while i < n {
+        w = ((w << 5) | (w >> 59)) ^ (piece[i] as u64);
+        i += 1;
+    }
+    w
+}
+
+// A piece of the svg file, shown unless it is of the line's middle.
+fn svg_piece(table: &[u16], k: usize, sum: u64) -> u64 {
     let mut piece = [0u8; 512];
-    let mut k = 0;
-    while k < picture::svg_pieces(table) {
-        let n = picture::svg_piece(table, k, &mut piece);
-        if n <= 512 {
-            say(&piece[0..n]);
-        }
+    let n = picture::svg_piece(table, k, &mut piece);
+    let w = with_piece(sum, &piece, n);
+    if k < 21 {
+        say(&piece[0..n]);
+        return w;
+    }
+    if 1291 < k {
+        say(&piece[0..n]);
+    }
+    w
+}
+
+fn svg(table: &[u16]) {
+    let mut sum: u64 = 0;
+    let mut k: usize = 0;
+    while k < 1362 {
+        sum = svg_piece(table, k, sum);
         k += 1;
     }
+    io::print_decimal(STDOUT_FILENO, picture::svg_pieces(table) as u64);
+    say(b" pieces, checksum ");
+    io::print_hex(STDOUT_FILENO, sum, 16);
+    say(b"\n");
 }
 
 fn main() {
@@ -38,23 +68,16 @@ fn main() {
     let mut house = [0u16; 1024];
     house::fill(&mut house);
     plot(b"the house curve\n", &house);
+    house[600] = 60000;
+    house[601] = 2000;
+    plot(b"the house curve with two wrong entries\n", &house);
     plot(
         b"steps\n",
-        &[
-            0,
-            0,
-            0,
-            20000,
-            20000,
-            20000,
-            50000,
-            50000,
-            50000,
-            65535,
-            65535,
-        ],
+        &[0, 0, 20000, 20000, 20000, 50000, 50000, 50000, 65535, 65535],
     );
     plot(b"one entry\n", &[40000]);
-    plot(b"none\n", &[]);
+    plot(b"no entry: nothing\n", &[]);
     svg(&[0, 9000, 20000, 60000, 65535]);
+    svg(&house);
+    svg(&[]);
 }
