@@ -6,10 +6,25 @@ fn say(text: &[u8]) {
     io::write_all(STDOUT_FILENO, text);
 }
 
+// The first n bytes of a lent buffer.
+fn say_first(text: &[u8], n: usize) {
+    if n <= text.len() {
+        say(&text[0..n]);
+    }
+}
+
+fn say_line(line: &[u8; 128], n: usize) {
+    say_first(line, n);
+}
+
+fn say_piece(piece: &[u8; 512], n: usize) {
+    say_first(piece, n);
+}
+
 fn plot_row(table: &[u16], row: usize) {
     let mut line = [0u8; 128];
     let n = picture::plot_line(table, row, &mut line);
-    say(&line[0..n]);
+    say_line(&line, n);
     say(b"\n");
 }
 
@@ -22,6 +37,11 @@ fn plot(name: &[u8], table: &[u16]) {
     }
 }
 
+// The checksum with a byte more.
+fn with_byte(sum: u64, b: u8) -> u64 {
+    ((sum << 5) | (sum >> 59)) ^ (b as u64)
+}
+
 // The checksum with a piece more.
 fn with_piece(sum: u64, piece: &[u8; 512], n: usize) -> u64
     requires { ⌜ n ≤ 512 ⌝ }
@@ -29,7 +49,7 @@ fn with_piece(sum: u64, piece: &[u8; 512], n: usize) -> u64
     let mut w = sum;
     let mut i = 0;
     while i < n {
-        w = ((w << 5) | (w >> 59)) ^ (piece[i] as u64);
+        w = with_byte(w, piece[i]);
         i += 1;
     }
     w
@@ -41,22 +61,28 @@ fn svg_piece(table: &[u16], k: usize, sum: u64) -> u64 {
     let n = picture::svg_piece(table, k, &mut piece);
     let w = with_piece(sum, &piece, n);
     if k < 21 {
-        say(&piece[0..n]);
+        say_piece(&piece, n);
         return w;
     }
     if 1291 < k {
-        say(&piece[0..n]);
+        say_piece(&piece, n);
     }
     w
 }
 
-fn svg(table: &[u16]) {
+// Every piece of the svg file, and past its end.
+fn svg_sum(table: &[u16]) -> u64 {
     let mut sum: u64 = 0;
     let mut k: usize = 0;
-    while k < 1362 {
+    while k < 1400 {
         sum = svg_piece(table, k, sum);
         k += 1;
     }
+    sum
+}
+
+fn svg(table: &[u16]) {
+    let sum = svg_sum(table);
     io::print_decimal(STDOUT_FILENO, picture::svg_pieces(table) as u64);
     say(b" pieces, checksum ");
     io::print_hex(STDOUT_FILENO, sum, 16);
