@@ -1,16 +1,15 @@
 -- The plot's marks: how a column's reach tells which rows the curve passes, and that every drive's density is drawn. Assumes nothing.
 use mathlib.Core.Path.{_≡_, _∙_, refl, sym}
-use mathlib.Core.Bool.{Bool, true, false}
-use mathlib.Core.Logic.{_⊎_, inl, inr, ⊎-elim}
+use mathlib.Core.Bool.{true, false}
+use mathlib.Core.Logic.{_⊎_, ⊎-elim}
 use mathlib.Core.List.{List}
 use Prim.Native.Nat.{ℕ, _+_, _*_, _≤_, _<_}
 use native.Mathlib.Omega.{arith}
 use borrow.Author.Tests.{lt-ltb, le-ltb, leb-true, leb-false}
-use lib.Dec.{ltb, leb, eqb}
-use Rattle.table.specs.Choice.{pick}
-use Rattle.table.proofs.Choice.{never, same?, below?}
+use lib.Dec.{leb}
+use Rattle.table.proofs.Choice.{never, below?}
 use Rattle.picture.specs.declared.reach.Reach.{Reach}
-use Rattle.picture.specs.Place.{densityAt, rowOf, columnOf, driveOf}
+use Rattle.picture.specs.Place.{rowOf}
 use Rattle.picture.specs.Reach.{Within, Reaches}
 use Rattle.picture.specs.Plot.{starRow, firstOf, lastOf, Passed, Tells, starLeft, starRight, Marked}
 use Rattle.picture.proofs.Placing.{row-falls}

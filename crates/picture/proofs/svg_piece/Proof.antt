@@ -1,7 +1,6 @@
 -- `svg_piece` meets its promise: the two tests, and past them the piece. Assumes nothing.
 use Rattle.table.proofs.Choice.{fails, holds}
 use Rattle.table.proofs.Sizes.{within-high}
-use native.Mathlib.Omega.{arith}
 use Rattle.picture.proofs.Lengths.{piece-refused, piece-beyond, piece-given}
 use borrow.Author.Needs.{needs}
 use Rattle.picture.proofs.svg_piece.Statement.{statement}

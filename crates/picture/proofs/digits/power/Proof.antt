@@ -1,7 +1,6 @@
 -- `power` meets its contract: the five powers, case by case. Assumes nothing.
 use native.Mathlib.Omega.{arith}
 use mathlib.Core.Path.{_≡_, refl}
-use Prim.Native.Nat.{ℕ, _^_}
 use Rattle.picture.proofs.digits.power.Statement.{statement}
 use Rattle.picture.proofs.digits.power.Tie as tie
 

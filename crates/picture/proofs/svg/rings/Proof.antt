@@ -1,5 +1,4 @@
 -- `rings` meets its contract, case by case. Assumes nothing.
-use mathlib.Core.Path.{refl}
 use native.Mathlib.Omega.{arith}
 use borrow.Author.Tests.{le-leb, lt-leb}
 use Rattle.picture.specs.Svg.{ringsOf}
