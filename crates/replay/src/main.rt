@@ -1,10 +1,7 @@
 // Asks the library what a case file of the oracle asked the Rust (oracle/README.md), and counts the answers and refusals that are the same.
 // The argument names the file; without one it is the recorded list. The last line is the verdict: as many asked as agreed, or what is
 // wrong with the file.
-mod asked;
-mod lent;
 mod record;
-mod said;
 mod shown;
 
 use crate::record::Head;

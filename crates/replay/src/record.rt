@@ -1,11 +1,11 @@
 // One record of a case file: its table, and its questions in turn.
-use crate::asked::answered;
-use crate::lent::curv_written;
-use crate::lent::inverted;
-use crate::lent::para_written;
-use crate::lent::passed_through;
-use crate::lent::row_looked_up;
 use crate::shown::difference;
+use asking::asked::answered;
+use asking::lent::curv_written;
+use asking::lent::inverted;
+use asking::lent::para_written;
+use asking::lent::passed_through;
+use asking::lent::row_looked_up;
 use cases::bytes::number_at;
 use cases::bytes::plus;
 use cases::bytes::word_at;
