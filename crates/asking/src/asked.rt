@@ -58,6 +58,7 @@ fn curve_of(list: &[f32], count: usize) -> Given {
     unified(ParametricCurve::new(&list[0..count]))
 }
 
+// Lends the array as a slice, whose length the test above then shows with no proof.
 fn first_of(list: &[f32; 8], count: usize) -> Given {
     curve_of(list, count)
 }
@@ -77,6 +78,7 @@ fn close_of(src: &[f32], dst: &[f32], src_count: usize, dst_count: usize) -> Giv
     one_word(parametric::compare_parametric(&src[0..src_count], &dst[0..dst_count]) as u32)
 }
 
+// The same of two arrays.
 fn firsts_of(src: &[f32; 8], dst: &[f32; 8], src_count: usize, dst_count: usize) -> Given {
     close_of(src, dst, src_count, dst_count)
 }
@@ -99,6 +101,7 @@ fn direction(word: u32) -> Direction {
     Direction::Rising
 }
 
+// The words of an answer that is wanted, one by one.
 fn compared(record: &[u8], at: usize, count: usize, number: u32, given: Given) -> Outcome
     requires { ⌜ count ≤ 7 ⌝ }
 {
@@ -114,6 +117,7 @@ fn compared(record: &[u8], at: usize, count: usize, number: u32, given: Given) -
     o
 }
 
+// What the library answers to the question at `at`.
 fn asked(routine: usize, record: &[u8], at: usize, table: &[u16], list: &[f32]) -> Given {
     match routine {
         1 => looked(lookup::lut_interp_linear16(table, Drive(half_at(record, at)))),
@@ -132,7 +136,7 @@ fn asked(routine: usize, record: &[u8], at: usize, table: &[u16], list: &[f32]) 
     }
 }
 
-// The words of an answer are one answer together, and so is a refusal.
+// Asks the question, and holds what is answered to what stands at `at`. The words of an answer are one answer together, and so is a refusal.
 pub fn answered(
     routine: usize,
     record: &[u8],

@@ -42,8 +42,12 @@ fn wrong(record: usize) -> Turn {
     Turn::Stop
 }
 
-// The last record says how many records and questions came before it, and nothing comes after it.
+// The last record has no entries and no questions. It says how many records and questions came before it, and nothing comes after it.
 fn ended(fd: i32, run: Run, record: &mut [u8], counts: &[usize; 34]) {
+    if long_at(record, 8) != 0 {
+        text(b"replay: the last record has entries or questions\n");
+        return;
+    }
     if long_at(record, 16) != run.records {
         text(b"replay: the last record counts other records than there are\n");
         return;

@@ -77,6 +77,7 @@ fn word(n: u32, is_float: bool) {
     io::print_decimal(STDOUT_FILENO, wide(n));
 }
 
+// The words of a question, of which there are at most eighteen.
 fn question(routine: usize, record: &[u8], at: usize) {
     let end = plus(at, question_bytes(routine));
     let is_float = asks_floats(routine);

@@ -1,4 +1,4 @@
--- `compared` is safe and ends. Assumes nothing.
+-- `compared` is safe and ends: the measure is how many words are left. Assumes nothing.
 use Prim.Native.Nat.{_-_}
 use native.Mathlib.Omega.{arith}
 use Rattle.asking.proofs.asked.compared.Statement.{statement}
