@@ -1,21 +1,18 @@
 // Asks the library what a case file of the oracle asked the Rust (oracle/README.md), and counts the answers and refusals that are the same.
 // The argument names the file; without one it is the recorded list. The last line is the verdict: as many asked as agreed, or what is
 // wrong with the file.
-mod asked;
-mod lent;
 mod record;
-mod said;
 mod shown;
 
-use cases::bytes::long_at;
-use cases::bytes::number_at;
-use cases::bytes::plus;
 use crate::record::Head;
 use crate::record::Went;
 use crate::record::replayed;
 use crate::shown::counts_line;
 use crate::shown::number;
 use crate::shown::text;
+use cases::bytes::long_at;
+use cases::bytes::number_at;
+use cases::bytes::plus;
 
 // Records and questions so far, and differences shown.
 struct Run {
@@ -45,8 +42,12 @@ fn wrong(record: usize) -> Turn {
     Turn::Stop
 }
 
-// The last record says how many records and questions came before it, and nothing comes after it.
+// The last record has no entries and no questions. It says how many records and questions came before it, and nothing comes after it.
 fn ended(fd: i32, run: Run, record: &mut [u8], counts: &[usize; 34]) {
+    if long_at(record, 8) != 0 {
+        text(b"replay: the last record has entries or questions\n");
+        return;
+    }
     if long_at(record, 16) != run.records {
         text(b"replay: the last record counts other records than there are\n");
         return;

@@ -1,4 +1,11 @@
 // One record of a case file: its table, and its questions in turn.
+use crate::shown::difference;
+use asking::asked::answered;
+use asking::lent::curv_written;
+use asking::lent::inverted;
+use asking::lent::para_written;
+use asking::lent::passed_through;
+use asking::lent::row_looked_up;
 use cases::bytes::number_at;
 use cases::bytes::plus;
 use cases::bytes::word_at;
@@ -13,13 +20,6 @@ use cases::lists::load_halves;
 use cases::outcome::Outcome;
 use cases::outcome::is_whole;
 use cases::outcome::missed;
-use crate::asked::answered;
-use crate::lent::curv_written;
-use crate::lent::inverted;
-use crate::lent::para_written;
-use crate::lent::passed_through;
-use crate::lent::row_looked_up;
-use crate::shown::difference;
 
 // Differences that are shown of a whole file.
 const SHOWN: usize = 5;
@@ -113,6 +113,7 @@ fn asked_one(
     }
 }
 
+// Shows the first differences, and says how many were shown.
 fn show(head: Head, shown: usize, record: &[u8], at: usize, o: Outcome) -> usize {
     if is_whole(o) {
         return shown;
@@ -124,6 +125,7 @@ fn show(head: Head, shown: usize, record: &[u8], at: usize, o: Outcome) -> usize
     plus(shown, 1)
 }
 
+// One question, once its bytes are seen to be there and to be such a question.
 fn step(
     head: Head,
     at: usize,
@@ -173,6 +175,7 @@ fn step(
     Stepped::To(next, show(head, shown, record, at, o))
 }
 
+// The questions, which must end where the record does.
 fn in_turn(
     head: Head,
     start: usize,
@@ -247,6 +250,7 @@ fn as_row(
     Went::On(show(row, shown, record, row_question(start, o.place), o))
 }
 
+// Where question i of the row stands.
 fn row_question(start: usize, i: usize) -> usize {
     if i > 65536 {
         return start;
@@ -254,6 +258,7 @@ fn row_question(start: usize, i: usize) -> usize {
     plus(start, 12 * i)
 }
 
+// A record with a table of 16-bit entries.
 fn on_table(
     head: Head,
     shown: usize,
@@ -290,6 +295,7 @@ fn on_table(
     }
 }
 
+// A record with a list of floats.
 fn on_list(
     head: Head,
     shown: usize,

@@ -14,7 +14,8 @@ pub fn number(n: usize) {
     io::print_decimal(STDOUT_FILENO, n as u64);
 }
 
-// The names that the oracle prints; number 0 is the row, which is asked what number 1 is.
+// The names that the oracle prints; number 0 is the row, which is asked what number 1 is. A few to a function, since a long `match` is
+// slow to prove.
 fn name(routine: usize) {
     match routine {
         0 => text(b"lut_interp_linear16_row"),
@@ -22,12 +23,24 @@ fn name(routine: usize) {
         2 => text(b"lut_interp_linear_gamma_impl"),
         3 => text(b"lut_inverse_interp16"),
         4 => text(b"invert_lut"),
+        _ => name_from_5(routine),
+    }
+}
+
+fn name_from_5(routine: usize) {
+    match routine {
         5 => text(b"lut_interp_linear"),
         6 => text(b"lut_interp_linear_float"),
         7 => text(b"passthrough_table_impl"),
         8 => text(b"u8_fixed_8number_to_float"),
         9 => text(b"ParametricCurve::new"),
         10 => text(b"compare_parametric"),
+        _ => name_from_11(routine),
+    }
+}
+
+fn name_from_11(routine: usize) {
+    match routine {
         11 => text(b"is_curve_monotonic"),
         12 => text(b"is_curve_degenerated"),
         13 => text(b"f64 as f32"),
@@ -64,6 +77,7 @@ fn word(n: u32, is_float: bool) {
     io::print_decimal(STDOUT_FILENO, wide(n));
 }
 
+// The words of a question, of which there are at most eighteen.
 fn question(routine: usize, record: &[u8], at: usize) {
     let end = plus(at, question_bytes(routine));
     let is_float = asks_floats(routine);

@@ -1,4 +1,4 @@
--- `verdict` is safe and ends. Assumes nothing.
+-- `verdict` is safe and ends: the measure is how many routines are left. Assumes nothing.
 use Prim.Native.Nat.{_-_}
 use native.Mathlib.Omega.{arith}
 use Rattle.replay.proofs.verdict.Statement.{statement}

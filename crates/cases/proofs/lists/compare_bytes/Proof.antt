@@ -1,4 +1,4 @@
--- `compare_bytes` is safe and ends. Assumes nothing.
+-- `compare_bytes` is safe and ends: the measure is what is left of the buffer. That its length fits 64 bits is kept, for the sum `i + 1`. Assumes nothing.
 use Prim.Native.Nat.{_<_, _-_}
 use native.Mathlib.Omega.{arith}
 use lib.ListN.{length}

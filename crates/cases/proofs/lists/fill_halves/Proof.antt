@@ -1,4 +1,4 @@
--- `fill_halves` is safe and ends. Assumes nothing.
+-- `fill_halves` is safe and ends: the buffer keeps its length, and the measure is what is left of it. Assumes nothing.
 use Prim.Native.Nat.{_-_}
 use native.Mathlib.Omega.{arith}
 use mathlib.Core.Path.{_≡_, refl}

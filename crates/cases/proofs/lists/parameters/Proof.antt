@@ -1,4 +1,4 @@
--- `parameters` is safe and ends. Assumes nothing.
+-- `parameters` is safe and ends: the measure is how many of the eight are left. Assumes nothing.
 use Prim.Native.Nat.{_-_}
 use native.Mathlib.Omega.{arith}
 use Rattle.cases.proofs.lists.parameters.Statement.{statement}

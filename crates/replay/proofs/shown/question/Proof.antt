@@ -1,4 +1,4 @@
--- `question` is safe and ends. Assumes nothing.
+-- `question` is safe and ends: the measure is how many words may still come. Assumes nothing.
 use Prim.Native.Nat.{_-_}
 use native.Mathlib.Omega.{arith}
 use Rattle.replay.proofs.shown.question.Statement.{statement}

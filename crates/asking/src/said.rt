@@ -81,11 +81,19 @@ pub fn degenerated(answer: Degenerated) -> Given {
     }
 }
 
+// A count as a word; one that does not fit is none that a file has.
+fn word_of(count: usize) -> u32 {
+    if count > 0xffff_ffff {
+        return u32::MAX;
+    }
+    count as u32
+}
+
 // The verdict and the violations.
 fn two_words(first: u32, second: usize) -> Given {
     let mut words = [0u32; 7];
     words[0] = first;
-    words[1] = (second % 4294967296) as u32;
+    words[1] = word_of(second);
     Given { refusal: 0, words }
 }
 

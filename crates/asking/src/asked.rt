@@ -1,5 +1,16 @@
 // Calls that answer in a few words: the question is read from the record and asked of the library.
 ghost use Prim.Native.Nat.{_≤_};
+use crate::said::Given;
+use crate::said::coded;
+use crate::said::degenerated;
+use crate::said::interpolated;
+use crate::said::looked;
+use crate::said::monotonic;
+use crate::said::no_answer;
+use crate::said::one_float;
+use crate::said::one_word;
+use crate::said::sought;
+use crate::said::unified;
 use cases::bytes::half_at;
 use cases::bytes::number_at;
 use cases::bytes::plus;
@@ -14,17 +25,6 @@ use cases::outcome::as_one;
 use cases::outcome::counted;
 use cases::outcome::nothing;
 use cases::outcome::said;
-use crate::said::Given;
-use crate::said::coded;
-use crate::said::degenerated;
-use crate::said::interpolated;
-use crate::said::looked;
-use crate::said::monotonic;
-use crate::said::no_answer;
-use crate::said::one_float;
-use crate::said::one_word;
-use crate::said::sought;
-use crate::said::unified;
 use matan::Direction;
 use parametric::ParametricCurve;
 use table::Density;
@@ -58,6 +58,7 @@ fn curve_of(list: &[f32], count: usize) -> Given {
     unified(ParametricCurve::new(&list[0..count]))
 }
 
+// Lends the array as a slice, whose length the test above then shows with no proof.
 fn first_of(list: &[f32; 8], count: usize) -> Given {
     curve_of(list, count)
 }
@@ -77,6 +78,7 @@ fn close_of(src: &[f32], dst: &[f32], src_count: usize, dst_count: usize) -> Giv
     one_word(parametric::compare_parametric(&src[0..src_count], &dst[0..dst_count]) as u32)
 }
 
+// The same of two arrays.
 fn firsts_of(src: &[f32; 8], dst: &[f32; 8], src_count: usize, dst_count: usize) -> Given {
     close_of(src, dst, src_count, dst_count)
 }
@@ -99,6 +101,7 @@ fn direction(word: u32) -> Direction {
     Direction::Rising
 }
 
+// The words of an answer that is wanted, one by one.
 fn compared(record: &[u8], at: usize, count: usize, number: u32, given: Given) -> Outcome
     requires { ⌜ count ≤ 7 ⌝ }
 {
@@ -114,6 +117,7 @@ fn compared(record: &[u8], at: usize, count: usize, number: u32, given: Given) -
     o
 }
 
+// What the library answers to the question at `at`.
 fn asked(routine: usize, record: &[u8], at: usize, table: &[u16], list: &[f32]) -> Given {
     match routine {
         1 => looked(lookup::lut_interp_linear16(table, Drive(half_at(record, at)))),
@@ -132,7 +136,7 @@ fn asked(routine: usize, record: &[u8], at: usize, table: &[u16], list: &[f32]) 
     }
 }
 
-// The words of an answer are one answer together, and so is a refusal.
+// Asks the question, and holds what is answered to what stands at `at`. The words of an answer are one answer together, and so is a refusal.
 pub fn answered(
     routine: usize,
     record: &[u8],

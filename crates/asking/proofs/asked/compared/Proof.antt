@@ -1,8 +1,8 @@
--- `compared` is safe and ends. Assumes nothing.
+-- `compared` is safe and ends: the measure is how many words are left. Assumes nothing.
 use Prim.Native.Nat.{_-_}
 use native.Mathlib.Omega.{arith}
-use Rattle.replay.proofs.asked.compared.Statement.{statement}
-use Rattle.replay.proofs.asked.compared.Tie as tie
+use Rattle.asking.proofs.asked.compared.Statement.{statement}
+use Rattle.asking.proofs.asked.compared.Tie as tie
 
 abbrev Inv-loop : tie.InvT-loop
 Inv-loop «record» at count number words o₀ place₀ i₀ o place i = Unit {0}
