@@ -1,11 +1,6 @@
 // Each byte of a short tag changed to each of its 255 other values: the refusal by the byte's place, or the one number that changes.
 use crate::curv_tags::curv_has;
 use crate::curv_tags::curv_refused;
-use crate::lists::byte_at;
-use crate::lists::entry_at;
-use crate::lists::first_entries;
-use crate::lists::put_byte;
-use crate::lists::put_entry;
 use crate::para_tags::para_has;
 use crate::para_tags::para_refused;
 use crate::tags::byte_of;
@@ -17,8 +12,13 @@ use crate::tags::para_1;
 use crate::tags::para_2;
 use crate::tags::para_3;
 use crate::tags::para_4;
-use crate::tally::Tally;
-use crate::tally::at;
+use checks::lists::byte_at;
+use checks::lists::entry_at;
+use checks::lists::first_entries;
+use checks::lists::put_byte;
+use checks::lists::put_entry;
+use checks::tally::Tally;
+use checks::tally::at;
 
 // How many numbers a para tag has, and seven, each as its two's complement.
 struct Wanted {

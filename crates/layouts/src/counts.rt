@@ -2,12 +2,12 @@
 // the total were cut to 16 or 32 bits. The case is the total.
 use crate::curv_tags::counted;
 use crate::curv_tags::curv_refused;
-use crate::lists::first_bytes;
 use crate::tags::curv_most;
 use crate::tags::put_count;
-use crate::tally::Tally;
-use crate::tally::at;
-use crate::tally::same;
+use checks::lists::first_bytes;
+use checks::tally::Tally;
+use checks::tally::at;
+use checks::tally::same;
 
 // The bytes cut to a total are refused with this number.
 fn refused_at(tally: &mut Tally, bytes: &[u8], total: usize, number: u64) {

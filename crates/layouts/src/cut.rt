@@ -1,7 +1,5 @@
 // Every tag cut short at each of its bytes, and with one to four bytes too many: refused with 8. The case is the length.
 use crate::curv_tags::curv_refused;
-use crate::lists::copy_bytes;
-use crate::lists::first_bytes;
 use crate::para_tags::para_refused;
 use crate::tags::curv_most;
 use crate::tags::curv_none;
@@ -12,8 +10,10 @@ use crate::tags::para_1;
 use crate::tags::para_2;
 use crate::tags::para_3;
 use crate::tags::para_4;
-use crate::tally::Tally;
-use crate::tally::at;
+use checks::lists::copy_bytes;
+use checks::lists::first_bytes;
+use checks::tally::Tally;
+use checks::tally::at;
 
 // The first n bytes are no curv tag.
 fn curv_cut(tally: &mut Tally, bytes: &[u8], n: usize) {

@@ -1,6 +1,5 @@
 // Every ICC layout: curv of 0, 1, 2 and 65,536 entries, and para of each function type, by every call. The f32s were worked out in Python, by fractions.
 use crate::curv_tags::curv_has;
-use crate::lists::fill_indices;
 use crate::para_tags::curve_is;
 use crate::para_tags::para_has;
 use crate::para_tags::para_written;
@@ -13,9 +12,10 @@ use crate::tags::para_1;
 use crate::tags::para_2;
 use crate::tags::para_3;
 use crate::tags::para_4;
-use crate::tally::Tally;
-use crate::tally::at;
-use crate::tally::holds;
+use checks::lists::fill_indices;
+use checks::tally::Tally;
+use checks::tally::at;
+use checks::tally::holds;
 use para::Numbers;
 use para::Read;
 use para::read_para;

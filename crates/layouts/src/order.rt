@@ -2,18 +2,18 @@
 use crate::curv_tags::curv_refused;
 use crate::curv_tags::read_into;
 use crate::curv_tags::write_into;
-use crate::lists::KEPT8;
-use crate::lists::KEPT16;
-use crate::lists::bytes_kept;
-use crate::lists::entries_kept;
 use crate::para_tags::para_into;
 use crate::para_tags::para_refused;
 use crate::tags::curv_two;
-use crate::tally::Tally;
-use crate::tally::at;
-use crate::tally::holds;
-use crate::tally::refused;
-use crate::tally::same;
+use checks::lists::KEPT8;
+use checks::lists::KEPT16;
+use checks::lists::bytes_kept;
+use checks::lists::entries_kept;
+use checks::tally::Tally;
+use checks::tally::at;
+use checks::tally::holds;
+use checks::tally::refused;
+use checks::tally::same;
 use para::Numbers;
 
 fn curv_is(tally: &mut Tally, case: u64, tag: &[u8], number: u64) {

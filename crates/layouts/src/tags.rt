@@ -1,7 +1,7 @@
 // A tag of each ICC layout, byte by byte as ICC.1 has it, but for the curv tag of 65,536 entries, which is filled in.
 ghost use mathlib.Core.Path.{_≡_};
 ghost use lib.ListN.{length};
-use crate::lists::put_byte;
+use checks::lists::put_byte;
 
 // curv of no entry.
 pub fn curv_none() -> [u8; 12]

@@ -1,15 +1,15 @@
 // Entries of the house curve. Their numbers were worked out from document 01's rule with Python's whole numbers, and not by the script that made the table.
 // The case is the index, or the buffer's length.
-use crate::answers::of_done;
-use crate::answers::of_looked;
-use crate::lists::KEPT16;
-use crate::lists::entries_kept;
-use crate::lists::entry_at;
-use crate::tally::Tally;
-use crate::tally::at;
-use crate::tally::holds;
-use crate::tally::refused;
-use crate::tally::same;
+use checks::answers::of_done;
+use checks::answers::of_looked;
+use checks::lists::KEPT16;
+use checks::lists::entries_kept;
+use checks::lists::entry_at;
+use checks::tally::Tally;
+use checks::tally::at;
+use checks::tally::holds;
+use checks::tally::refused;
+use checks::tally::same;
 use house::entry;
 use house::fill;
 

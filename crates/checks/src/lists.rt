@@ -68,7 +68,7 @@ pub fn same_entries(a: &[u16], b: &[u16]) -> bool {
         return false;
     }
     for i in 0..a.len() {
-        if a[i] != entry_at(b, i) {
+        if entry_at(a, i) != entry_at(b, i) {
             return false;
         }
     }
@@ -77,19 +77,19 @@ pub fn same_entries(a: &[u16], b: &[u16]) -> bool {
 
 pub fn fill_bytes(bytes: &mut [u8]) {
     for i in 0..bytes.len() {
-        bytes[i] = KEPT8;
+        put_byte(bytes, i, KEPT8);
     }
 }
 
 pub fn fill_entries(entries: &mut [u16]) {
     for i in 0..entries.len() {
-        entries[i] = KEPT16;
+        put_entry(entries, i, KEPT16);
     }
 }
 
 pub fn bytes_kept(bytes: &[u8]) -> bool {
     for i in 0..bytes.len() {
-        if bytes[i] != KEPT8 {
+        if byte_at(bytes, i) != KEPT8 {
             return false;
         }
     }
@@ -98,7 +98,7 @@ pub fn bytes_kept(bytes: &[u8]) -> bool {
 
 pub fn entries_kept(entries: &[u16]) -> bool {
     for i in 0..entries.len() {
-        if entries[i] != KEPT16 {
+        if entry_at(entries, i) != KEPT16 {
             return false;
         }
     }

@@ -1,16 +1,16 @@
 // The work on a table: start, accept and nudge, each refusal in document 01's order, and a short sitting. The case is the table's length, the sitting's turn, or of a
 // nudge in 0xRN its refusal and a running number.
-use crate::answers::of_done;
-use crate::lists::KEPT16;
-use crate::lists::entries_kept;
-use crate::lists::fill_indices;
-use crate::lists::put_entry;
-use crate::lists::same_entries;
-use crate::tally::Tally;
-use crate::tally::at;
-use crate::tally::holds;
-use crate::tally::refused;
-use crate::tally::same;
+use checks::answers::of_done;
+use checks::lists::KEPT16;
+use checks::lists::entries_kept;
+use checks::lists::fill_indices;
+use checks::lists::put_entry;
+use checks::lists::same_entries;
+use checks::tally::Tally;
+use checks::tally::at;
+use checks::tally::holds;
+use checks::tally::refused;
+use checks::tally::same;
 use curve::accept;
 use curve::nudge;
 use curve::start;

@@ -1,14 +1,14 @@
 // The edges of both verdicts: one step against the direction in 20 entries and in 21, an end run of 19 and of 20, and no verdict above 65,536 entries.
 // The case is the table's length, or the place of the one step against the direction.
-use crate::answers::of_degenerated;
-use crate::answers::of_monotonic;
-use crate::answers::violations;
-use crate::lists::first_entries;
-use crate::lists::put_entry;
-use crate::tally::Tally;
-use crate::tally::at;
-use crate::tally::refused;
-use crate::tally::same;
+use checks::answers::of_degenerated;
+use checks::answers::of_monotonic;
+use checks::answers::violations;
+use checks::lists::first_entries;
+use checks::lists::put_entry;
+use checks::tally::Tally;
+use checks::tally::at;
+use checks::tally::refused;
+use checks::tally::same;
 use matan::Direction;
 use matan::is_curve_degenerated;
 use matan::is_curve_monotonic;

@@ -1,14 +1,14 @@
 // Document 01's thirteen numbers, asked of the compiled calls. The case is the number's place in the list.
-use crate::answers::of_coded;
-use crate::answers::of_done;
-use crate::answers::of_looked;
-use crate::answers::of_sought;
-use crate::lists::same_entries;
-use crate::tally::Tally;
-use crate::tally::at;
-use crate::tally::holds;
-use crate::tally::refused;
-use crate::tally::same;
+use checks::answers::of_coded;
+use checks::answers::of_done;
+use checks::answers::of_looked;
+use checks::answers::of_sought;
+use checks::lists::same_entries;
+use checks::tally::Tally;
+use checks::tally::at;
+use checks::tally::holds;
+use checks::tally::refused;
+use checks::tally::same;
 use curve::start;
 use inverse::lut_inverse_interp16;
 use least::least_input;
