@@ -48,13 +48,12 @@ fn wide(x: u16) -> u64 {
     x as u64
 }
 
-fn filled(tally: &mut Tally) {
-    let mut table = [KEPT16; 1024];
+fn filled(tally: &mut Tally, table: &mut [u16]) {
     at(tally, 1024);
-    same(tally, b"fill", of_done(fill(&mut table)), 0);
-    same(tally, b"entry 511", wide(entry_at(&table, 511)), 11557);
-    same(tally, b"entry 1023", wide(entry_at(&table, 1023)), 65535);
-    same(tally, b"sum", sum(&table), 19187718);
+    same(tally, b"fill", of_done(fill(table)), 0);
+    same(tally, b"entry 511", wide(entry_at(table, 511)), 11557);
+    same(tally, b"entry 1023", wide(entry_at(table, 1023)), 65535);
+    same(tally, b"sum", sum(table), 19187718);
 }
 
 fn fill_refused(tally: &mut Tally) {
@@ -69,7 +68,8 @@ fn fill_refused(tally: &mut Tally) {
 }
 
 pub fn every_entry(tally: &mut Tally) {
+    let mut table = [KEPT16; 1024];
     entries(tally);
-    filled(tally);
+    filled(tally, &mut table);
     fill_refused(tally);
 }

@@ -58,34 +58,45 @@ fn fill_falls(table: &mut [u16], k: usize) {
 }
 
 // 20 entries with one step against the direction: no. The other direction has the 18 other steps against it.
+fn no_in_20(tally: &mut Tally, table: &mut [u16], k: usize) {
+    at(tally, k as u64);
+    fill_rises(table, k);
+    rising(tally, table, 0, 1);
+    falling(tally, table, 0, 18);
+    fill_falls(table, k);
+    falling(tally, table, 0, 1);
+    rising(tally, table, 0, 18);
+}
+
 fn one_in_20(tally: &mut Tally, k: usize) {
     let mut table = [0u16; 20];
-    at(tally, k as u64);
-    fill_rises(&mut table, k);
-    rising(tally, &table, 0, 1);
-    falling(tally, &table, 0, 18);
-    fill_falls(&mut table, k);
-    falling(tally, &table, 0, 1);
-    rising(tally, &table, 0, 18);
+    no_in_20(tally, &mut table, k);
 }
 
 // 21 entries with one step against the direction: yes.
+fn yes_in_21(tally: &mut Tally, table: &mut [u16], k: usize) {
+    at(tally, k as u64);
+    fill_rises(table, k);
+    rising(tally, table, 1, 1);
+    falling(tally, table, 0, 19);
+    fill_falls(table, k);
+    falling(tally, table, 1, 1);
+    rising(tally, table, 0, 19);
+}
+
 fn one_in_21(tally: &mut Tally, k: usize) {
     let mut table = [0u16; 21];
-    at(tally, k as u64);
-    fill_rises(&mut table, k);
-    rising(tally, &table, 1, 1);
-    falling(tally, &table, 0, 19);
-    fill_falls(&mut table, k);
-    falling(tally, &table, 1, 1);
-    rising(tally, &table, 0, 19);
+    yes_in_21(tally, &mut table, k);
 }
 
 // The one step at each of its places.
-fn one_against(tally: &mut Tally) {
+fn each_in_20(tally: &mut Tally) {
     for k in 1..20 {
         one_in_20(tally, k);
     }
+}
+
+fn each_in_21(tally: &mut Tally) {
     for k in 1..21 {
         one_in_21(tally, k);
     }
@@ -118,16 +129,15 @@ fn pairs_in(tally: &mut Tally, room: &mut [u16], n: usize, pairs: usize, yes: u6
 }
 
 // The same edge for more steps, up to the longest table: 20 times as many entries no, one more yes.
-fn many_against(tally: &mut Tally) {
-    let mut room = [0u16; 65536];
-    pairs_in(tally, &mut room, 40, 2, 0);
-    pairs_in(tally, &mut room, 41, 2, 1);
-    pairs_in(tally, &mut room, 100, 5, 0);
-    pairs_in(tally, &mut room, 101, 5, 1);
-    pairs_in(tally, &mut room, 65520, 3276, 0);
-    pairs_in(tally, &mut room, 65521, 3276, 1);
-    pairs_in(tally, &mut room, 65536, 3276, 1);
-    pairs_in(tally, &mut room, 65536, 3277, 0);
+fn many_against(tally: &mut Tally, room: &mut [u16]) {
+    pairs_in(tally, room, 40, 2, 0);
+    pairs_in(tally, room, 41, 2, 1);
+    pairs_in(tally, room, 100, 5, 0);
+    pairs_in(tally, room, 101, 5, 1);
+    pairs_in(tally, room, 65520, 3276, 0);
+    pairs_in(tally, room, 65521, 3276, 1);
+    pairs_in(tally, room, 65536, 3276, 1);
+    pairs_in(tally, room, 65536, 3277, 0);
 }
 
 // Equal neighbours are against neither direction, and a table of no entry or one has no steps.
@@ -165,8 +175,10 @@ fn monotonic_refused(tally: &mut Tally) {
 }
 
 pub fn monotonic(tally: &mut Tally) {
-    one_against(tally);
-    many_against(tally);
+    let mut room = [0u16; 65536];
+    each_in_20(tally);
+    each_in_21(tally);
+    many_against(tally, &mut room);
     none_against(tally);
     two_entries(tally);
     monotonic_refused(tally);
@@ -210,31 +222,29 @@ fn runs_are(tally: &mut Tally, room: &mut [u16], n: usize, first: usize, last: u
 }
 
 // An end run of 19 no, 20 yes, at either end, in tables of any length: no share of the table.
-fn end_runs(tally: &mut Tally) {
-    let mut room = [0u16; 65536];
-    runs_are(tally, &mut room, 20, 19, 1, 0);
-    runs_are(tally, &mut room, 20, 1, 19, 0);
-    runs_are(tally, &mut room, 21, 20, 1, 1);
-    runs_are(tally, &mut room, 21, 1, 20, 1);
-    runs_are(tally, &mut room, 38, 19, 19, 0);
-    runs_are(tally, &mut room, 60, 19, 1, 0);
-    runs_are(tally, &mut room, 60, 20, 1, 1);
-    runs_are(tally, &mut room, 60, 1, 19, 0);
-    runs_are(tally, &mut room, 60, 1, 20, 1);
-    runs_are(tally, &mut room, 60, 19, 19, 0);
-    runs_are(tally, &mut room, 60, 20, 20, 1);
-    runs_are(tally, &mut room, 100, 5, 5, 0);
-    runs_are(tally, &mut room, 65536, 19, 19, 0);
-    runs_are(tally, &mut room, 65536, 20, 1, 1);
-    runs_are(tally, &mut room, 65536, 1, 20, 1);
+fn end_runs(tally: &mut Tally, room: &mut [u16]) {
+    runs_are(tally, room, 20, 19, 1, 0);
+    runs_are(tally, room, 20, 1, 19, 0);
+    runs_are(tally, room, 21, 20, 1, 1);
+    runs_are(tally, room, 21, 1, 20, 1);
+    runs_are(tally, room, 38, 19, 19, 0);
+    runs_are(tally, room, 60, 19, 1, 0);
+    runs_are(tally, room, 60, 20, 1, 1);
+    runs_are(tally, room, 60, 1, 19, 0);
+    runs_are(tally, room, 60, 1, 20, 1);
+    runs_are(tally, room, 60, 19, 19, 0);
+    runs_are(tally, room, 60, 20, 20, 1);
+    runs_are(tally, room, 100, 5, 5, 0);
+    runs_are(tally, room, 65536, 19, 19, 0);
+    runs_are(tally, room, 65536, 20, 1, 1);
+    runs_are(tally, room, 65536, 1, 20, 1);
 }
 
 // Runs of 19 at both ends, each parted by one entry from twenty more of its own.
-fn parted_runs(tally: &mut Tally) {
-    let mut table = [7u16; 60];
-    put_entry(&mut table, 19, 1);
-    put_entry(&mut table, 40, 1);
-    degenerate(tally, &table, 0);
+fn parted_runs(tally: &mut Tally, table: &mut [u16]) {
+    put_entry(table, 19, 1);
+    put_entry(table, 40, 1);
+    degenerate(tally, table, 0);
 }
 
 // Tables of equal entries, whose run is the whole table, of each length below `end`.
@@ -253,7 +263,9 @@ fn all_equal(tally: &mut Tally) {
 }
 
 pub fn degenerated(tally: &mut Tally) {
-    end_runs(tally);
-    parted_runs(tally);
+    let mut parted = [7u16; 60];
+    let mut room = [0u16; 65536];
+    end_runs(tally, &mut room);
+    parted_runs(tally, &mut parted);
     all_equal(tally);
 }

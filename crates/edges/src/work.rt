@@ -66,6 +66,11 @@ fn accept_is(tally: &mut Tally, table: &[u16], wanted: u64) {
 }
 
 // Above 65,536 entries 1 comes before 2.
+fn above_falling(tally: &mut Tally, table: &mut [u16]) {
+    put_entry(table, 0, 8);
+    accept_is(tally, table, refused(1));
+}
+
 pub fn accepts(tally: &mut Tally) {
     let mut flat = [7u16; 65537];
     let rising = [0u16, 0, 65535];
@@ -78,8 +83,7 @@ pub fn accepts(tally: &mut Tally) {
     accept_is(tally, &rising, 0);
     accept_is(tally, &first_falls, refused(2));
     accept_is(tally, &last_falls, refused(2));
-    put_entry(&mut flat, 0, 8);
-    accept_is(tally, &flat, refused(1));
+    above_falling(tally, &mut flat);
 }
 
 // A nudge of entry i to v gives this answer.
@@ -177,6 +181,10 @@ fn turn(tally: &mut Tally, table: &mut [u16; 5], i: usize, v: u16, wanted: u64, 
     holds(tally, b"table", same_entries(table, &after));
 }
 
+fn accepted(tally: &mut Tally, table: &[u16; 5]) {
+    accept_is(tally, table, 0);
+}
+
 // A start, and nudges of which some are refused.
 pub fn sitting(tally: &mut Tally) {
     let mut table = [KEPT16; 5];
@@ -247,5 +255,5 @@ pub fn sitting(tally: &mut Tally) {
         0,
         [5, 20000, 20000, 49151, 49151],
     );
-    accept_is(tally, &table, 0);
+    accepted(tally, &table);
 }

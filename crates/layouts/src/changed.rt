@@ -177,10 +177,14 @@ fn para_byte(tally: &mut Tally, tag: &mut [u8], t: usize, numbers: Wanted, i: us
     }
 }
 
-fn para_bytes(tally: &mut Tally, tag: &mut [u8], t: usize, count: u64, patterns: [u64; 7]) {
+fn para_bytes(tally: &mut Tally, tag: &mut [u8], t: usize, numbers: Wanted) {
     for i in 0..tag.len() {
-        para_byte(tally, tag, t, Wanted { count, patterns }, i);
+        para_byte(tally, tag, t, numbers, i);
     }
+}
+
+fn numbered(count: u64, patterns: [u64; 7]) -> Wanted {
+    Wanted { count, patterns }
 }
 
 pub fn every_para_byte(tally: &mut Tally) {
@@ -189,49 +193,30 @@ pub fn every_para_byte(tally: &mut Tally) {
     let mut tag_2 = para_2();
     let mut tag_3 = para_3();
     let mut tag_4 = para_4();
-    para_bytes(tally, &mut tag_0, 0, 1, [0x0002_3333, 0, 0, 0, 0, 0, 0]);
-    para_bytes(
-        tally,
-        &mut tag_1,
-        1,
-        3,
-        [0x0002_0000, 0x0001_8000, 0x0000_c000, 0, 0, 0, 0],
-    );
-    para_bytes(
-        tally,
-        &mut tag_2,
-        2,
-        4,
-        [0x0001_cccd, 0xffff_0000, 0x0000_8000, 0xffff_c000, 0, 0, 0],
-    );
-    para_bytes(
-        tally,
-        &mut tag_3,
-        3,
-        5,
-        [
-            0x0002_6666,
-            0x0000_f2a7,
-            0x0000_0d59,
-            0x0000_13d0,
-            0x0000_0a5b,
-            0,
-            0,
-        ],
-    );
-    para_bytes(
-        tally,
-        &mut tag_4,
-        4,
-        7,
-        [
-            0x0001_0000,
-            0x7fff_ffff,
-            0x8000_0000,
-            0x0100_0001,
-            0x0100_0003,
-            0xffff_ffff,
-            0xfeff_fffd,
-        ],
-    );
+    let of_0 = [0x0002_3333, 0, 0, 0, 0, 0, 0];
+    let of_1 = [0x0002_0000, 0x0001_8000, 0x0000_c000, 0, 0, 0, 0];
+    let of_2 = [0x0001_cccd, 0xffff_0000, 0x0000_8000, 0xffff_c000, 0, 0, 0];
+    let of_3 = [
+        0x0002_6666,
+        0x0000_f2a7,
+        0x0000_0d59,
+        0x0000_13d0,
+        0x0000_0a5b,
+        0,
+        0,
+    ];
+    let of_4 = [
+        0x0001_0000,
+        0x7fff_ffff,
+        0x8000_0000,
+        0x0100_0001,
+        0x0100_0003,
+        0xffff_ffff,
+        0xfeff_fffd,
+    ];
+    para_bytes(tally, &mut tag_0, 0, numbered(1, of_0));
+    para_bytes(tally, &mut tag_1, 1, numbered(3, of_1));
+    para_bytes(tally, &mut tag_2, 2, numbered(4, of_2));
+    para_bytes(tally, &mut tag_3, 3, numbered(5, of_3));
+    para_bytes(tally, &mut tag_4, 4, numbered(7, of_4));
 }

@@ -51,41 +51,61 @@ fn part_is(tally: &mut Tally, tag: &[u8], part: &[u8], number: u64) {
     same(tally, b"part's number", why as u64, number);
 }
 
-// That a tag is refused with this number by each reader, whatever buffer it is lent, and that the buffer holds what it held.
-pub fn curv_refused(tally: &mut Tally, tag: &[u8], number: u64) {
-    same(tally, b"count", counted(tag), refused(number));
-    part_is(tally, tag, b"", number);
-    let mut room = [KEPT16; 3];
-    read_refused(tally, tag, &mut room, number);
-    holds(tally, b"buffer", entries_kept(&room));
+// That a tag is refused with this number for a buffer of 0 to 3 entries, and that the buffer holds what it held.
+fn read_refused(tally: &mut Tally, tag: &[u8], room: &mut [u16], number: u64) {
+    same(
+        tally,
+        b"read into 0",
+        read_into(tag, room, 0),
+        refused(number),
+    );
+    same(
+        tally,
+        b"read into 1",
+        read_into(tag, room, 1),
+        refused(number),
+    );
+    same(
+        tally,
+        b"read into 2",
+        read_into(tag, room, 2),
+        refused(number),
+    );
+    same(
+        tally,
+        b"read into 3",
+        read_into(tag, room, 3),
+        refused(number),
+    );
+    holds(tally, b"buffer", entries_kept(room));
 }
 
-// That a tag is refused with this number for a buffer of 0 to 3 entries.
-fn read_refused(tally: &mut Tally, tag: &[u8], room: &mut [u16; 3], number: u64) {
-    for n in 0..4 {
-        same(tally, b"read", read_into(tag, room, n), refused(number));
+// That a tag is refused with this number by each reader, whatever buffer it is lent.
+pub fn curv_refused(tally: &mut Tally, tag: &[u8], number: u64) {
+    let mut room = [KEPT16; 3];
+    same(tally, b"count", counted(tag), refused(number));
+    part_is(tally, tag, b"", number);
+    read_refused(tally, tag, &mut room, number);
+}
+
+// That a buffer of n entries is refused with 6, where a buffer may have so many.
+fn read_six(tally: &mut Tally, tag: &[u8], n: usize, room: &mut [u16]) {
+    if n == 0xffff_ffff_ffff_ffff {
+        return;
     }
+    same(
+        tally,
+        b"read, another length",
+        read_into(tag, room, n),
+        refused(6),
+    );
 }
 
 // That a buffer of any other length, by one, is refused with 6 and left alone. The room has more than n entries.
 fn six(tally: &mut Tally, tag: &[u8], n: usize, room: &mut [u16]) {
     fill_entries(room);
-    if n < room.len() {
-        same(
-            tally,
-            b"read, one too long",
-            read_into(tag, room, n + 1),
-            refused(6),
-        );
-    }
-    if 0 < n {
-        same(
-            tally,
-            b"read, one too short",
-            read_into(tag, room, n - 1),
-            refused(6),
-        );
-    }
+    read_six(tally, tag, std::num::wrapping_add_usize(n, 1), room);
+    read_six(tally, tag, std::num::wrapping_sub_usize(n, 1), room);
     holds(tally, b"buffer", entries_kept(room));
 }
 
@@ -102,27 +122,30 @@ fn read_gives(tally: &mut Tally, tag: &[u8], entries: &[u16], room: &mut [u16]) 
     holds(tally, b"beyond", entries_kept(rest_entries(room, n)));
 }
 
+// That a buffer of any other length, by one, is refused with 6 and left alone. A tag has a byte at least, and the room has one more.
+fn write_six(tally: &mut Tally, n: usize, entries: &[u16], room: &mut [u8]) {
+    let more = std::num::wrapping_add_usize(n, 1);
+    let less = std::num::wrapping_sub_usize(n, 1);
+    fill_bytes(room);
+    same(
+        tally,
+        b"write, one too long",
+        write_into(entries, room, more),
+        refused(6),
+    );
+    same(
+        tally,
+        b"write, one too short",
+        write_into(entries, room, less),
+        refused(6),
+    );
+    holds(tally, b"buffer", bytes_kept(room));
+}
+
 // That these entries are written as the tag, into a buffer of just its length.
 fn write_gives(tally: &mut Tally, tag: &[u8], entries: &[u16], room: &mut [u8]) {
     let n = tag.len();
-    fill_bytes(room);
-    if n < room.len() {
-        same(
-            tally,
-            b"write, one too long",
-            write_into(entries, room, n + 1),
-            refused(6),
-        );
-    }
-    if 0 < n {
-        same(
-            tally,
-            b"write, one too short",
-            write_into(entries, room, n - 1),
-            refused(6),
-        );
-    }
-    holds(tally, b"buffer", bytes_kept(room));
+    write_six(tally, n, entries, room);
     same(tally, b"write", write_into(entries, room, n), 0);
     holds(tally, b"written", check::same(first_bytes(room, n), tag));
     holds(tally, b"beyond", bytes_kept(rest_bytes(room, n)));

@@ -82,54 +82,51 @@ fn seven(g: i32, a: i32, b: i32, c: i32, d: i32, e: i32, f: i32) -> Numbers {
 }
 
 // The case is the function type. Numbers that the type does not use are written as something else than 0, and read as 0.
-fn type_0(tally: &mut Tally) {
-    let tag = para_0();
+fn type_0(tally: &mut Tally, tag: &[u8]) {
     at(tally, 0);
-    para_has(tally, &tag, 0, 1, [0x0002_3333, 0, 0, 0, 0, 0, 0]);
-    signed_are(tally, &tag, seven(144179, 0, 0, 0, 0, 0, 0));
-    para_written(tally, &tag, 0, seven(144179, 1, -2, 3, -4, 5, -6));
-    curve_is(tally, &tag, [0x400c_ccc0, 0x3f80_0000, 0, 0, 0, 0, 0]);
+    para_has(tally, tag, 0, 1, [0x0002_3333, 0, 0, 0, 0, 0, 0]);
+    signed_are(tally, tag, seven(144179, 0, 0, 0, 0, 0, 0));
+    para_written(tally, tag, 0, seven(144179, 1, -2, 3, -4, 5, -6));
+    curve_is(tally, tag, [0x400c_ccc0, 0x3f80_0000, 0, 0, 0, 0, 0]);
 }
 
-fn type_1(tally: &mut Tally) {
-    let tag = para_1();
+fn type_1(tally: &mut Tally, tag: &[u8]) {
     at(tally, 1);
     para_has(
         tally,
-        &tag,
+        tag,
         1,
         3,
         [0x0002_0000, 0x0001_8000, 0x0000_c000, 0, 0, 0, 0],
     );
-    signed_are(tally, &tag, seven(131072, 98304, 49152, 0, 0, 0, 0));
-    para_written(tally, &tag, 1, seven(131072, 98304, 49152, 3, -4, 5, -6));
+    signed_are(tally, tag, seven(131072, 98304, 49152, 0, 0, 0, 0));
+    para_written(tally, tag, 1, seven(131072, 98304, 49152, 3, -4, 5, -6));
     curve_is(
         tally,
-        &tag,
+        tag,
         [0x4000_0000, 0x3fc0_0000, 0x3f40_0000, 0, 0xbf00_0000, 0, 0],
     );
 }
 
-fn type_2(tally: &mut Tally) {
-    let tag = para_2();
+fn type_2(tally: &mut Tally, tag: &[u8]) {
     at(tally, 2);
     para_has(
         tally,
-        &tag,
+        tag,
         2,
         4,
         [0x0001_cccd, 0xffff_0000, 0x0000_8000, 0xffff_c000, 0, 0, 0],
     );
-    signed_are(tally, &tag, seven(117965, -65536, 32768, -16384, 0, 0, 0));
+    signed_are(tally, tag, seven(117965, -65536, 32768, -16384, 0, 0, 0));
     para_written(
         tally,
-        &tag,
+        tag,
         2,
         seven(117965, -65536, 32768, -16384, -4, 5, -6),
     );
     curve_is(
         tally,
-        &tag,
+        tag,
         [
             0x3fe6_6680,
             0xbf80_0000,
@@ -142,12 +139,11 @@ fn type_2(tally: &mut Tally) {
     );
 }
 
-fn type_3(tally: &mut Tally) {
-    let tag = para_3();
+fn type_3(tally: &mut Tally, tag: &[u8]) {
     at(tally, 3);
     para_has(
         tally,
-        &tag,
+        tag,
         3,
         5,
         [
@@ -160,16 +156,11 @@ fn type_3(tally: &mut Tally) {
             0,
         ],
     );
-    signed_are(tally, &tag, seven(157286, 62119, 3417, 5072, 2651, 0, 0));
-    para_written(
-        tally,
-        &tag,
-        3,
-        seven(157286, 62119, 3417, 5072, 2651, 5, -6),
-    );
+    signed_are(tally, tag, seven(157286, 62119, 3417, 5072, 2651, 0, 0));
+    para_written(tally, tag, 3, seven(157286, 62119, 3417, 5072, 2651, 5, -6));
     curve_is(
         tally,
-        &tag,
+        tag,
         [
             0x4019_9980,
             0x3f72_a700,
@@ -182,8 +173,7 @@ fn type_3(tally: &mut Tally) {
     );
 }
 
-fn type_4(tally: &mut Tally) {
-    let tag = para_4();
+fn type_4(tally: &mut Tally, tag: &[u8]) {
     let numbers = seven(
         65536,
         2147483647,
@@ -196,7 +186,7 @@ fn type_4(tally: &mut Tally) {
     at(tally, 4);
     para_has(
         tally,
-        &tag,
+        tag,
         4,
         7,
         [
@@ -209,11 +199,11 @@ fn type_4(tally: &mut Tally) {
             0xfeff_fffd,
         ],
     );
-    signed_are(tally, &tag, numbers);
-    para_written(tally, &tag, 4, numbers);
+    signed_are(tally, tag, numbers);
+    para_written(tally, tag, 4, numbers);
     curve_is(
         tally,
-        &tag,
+        tag,
         [
             0x3f80_0000,
             0x4700_0000,
@@ -227,11 +217,11 @@ fn type_4(tally: &mut Tally) {
 }
 
 pub fn every_para(tally: &mut Tally) {
-    type_0(tally);
-    type_1(tally);
-    type_2(tally);
-    type_3(tally);
-    type_4(tally);
+    type_0(tally, &para_0());
+    type_1(tally, &para_1());
+    type_2(tally, &para_2());
+    type_3(tally, &para_3());
+    type_4(tally, &para_4());
 }
 
 // d = -b/a where the quotient is rounded, where b is 0, where a is 0, and where both are: a NaN.

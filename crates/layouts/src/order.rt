@@ -9,6 +9,7 @@ use checks::lists::KEPT8;
 use checks::lists::KEPT16;
 use checks::lists::bytes_kept;
 use checks::lists::entries_kept;
+use checks::lists::first_entries;
 use checks::tally::Tally;
 use checks::tally::at;
 use checks::tally::holds;
@@ -109,21 +110,24 @@ pub fn of_para(tally: &mut Tally) {
     para_is(tally, 0xb2, b"para\x00\x00\x00\x00\xff\xff\x00\x00", 11);
 }
 
-// The curv reader's last: 6, for a buffer of every length from 0 to 5 but the tag's 2. The case is the buffer's length.
-fn read_six(tally: &mut Tally, room: &mut [u16; 5]) {
-    let tag = curv_two();
-    for n in 0..6 {
-        if n != 2 {
-            at(tally, n as u64);
-            same(tally, b"read", read_into(&tag, room, n), refused(6));
-        }
-    }
+// The curv reader's last: 6, for a buffer of every other length than the tag's 2, to 5. The case is the buffer's length.
+fn read_six(tally: &mut Tally, tag: &[u8], room: &mut [u16], n: usize) {
+    at(tally, n as u64);
+    same(tally, b"read", read_into(tag, room, n), refused(6));
+}
+
+fn reads(tally: &mut Tally, tag: &[u8], room: &mut [u16]) {
+    read_six(tally, tag, room, 0);
+    read_six(tally, tag, room, 1);
+    read_six(tally, tag, room, 3);
+    read_six(tally, tag, room, 4);
+    read_six(tally, tag, room, 5);
+    holds(tally, b"buffer", entries_kept(room));
 }
 
 fn reader(tally: &mut Tally) {
     let mut room = [KEPT16; 5];
-    read_six(tally, &mut room);
-    holds(tally, b"buffer", entries_kept(&room));
+    reads(tally, &curv_two(), &mut room);
 }
 
 fn written_is(tally: &mut Tally, table: &[u16], room: &mut [u8], n: usize, number: u64) {
@@ -137,21 +141,19 @@ fn written_is(tally: &mut Tally, table: &[u16], room: &mut [u8], n: usize, numbe
 }
 
 // The curv writer: 1, only above, with a buffer of the table's length too, then 6, where a length cut to 16 bits would suit too.
-fn curv_writer(tally: &mut Tally) {
-    let table = [7u16; 65537];
-    let mut room = [KEPT8; 131087];
-    written_is(tally, &table, &mut room, 131086, 1);
-    written_is(tally, &table, &mut room, 131085, 1);
-    written_is(tally, &table, &mut room, 14, 1);
-    written_is(tally, &table, &mut room, 0, 1);
-    written_is(tally, &table[0..65536], &mut room, 12, 6);
-    written_is(tally, &table[0..65536], &mut room, 131085, 6);
-    written_is(tally, &table[0..0], &mut room, 11, 6);
-    written_is(tally, &table[0..0], &mut room, 0, 6);
-    holds(tally, b"buffer", bytes_kept(&room));
+fn curv_writer(tally: &mut Tally, table: &[u16], room: &mut [u8]) {
+    written_is(tally, table, room, 131086, 1);
+    written_is(tally, table, room, 131085, 1);
+    written_is(tally, table, room, 14, 1);
+    written_is(tally, table, room, 0, 1);
+    written_is(tally, first_entries(table, 65536), room, 12, 6);
+    written_is(tally, first_entries(table, 65536), room, 131085, 6);
+    written_is(tally, first_entries(table, 0), room, 11, 6);
+    written_is(tally, first_entries(table, 0), room, 0, 6);
+    holds(tally, b"buffer", bytes_kept(room));
 }
 
-fn para_writes(tally: &mut Tally, t: usize, room: &mut [u8; 44]) {
+fn para_is_refused(tally: &mut Tally, t: usize, room: &mut [u8], n: usize) {
     let numbers = Numbers {
         g: 1,
         a: 2,
@@ -161,36 +163,43 @@ fn para_writes(tally: &mut Tally, t: usize, room: &mut [u8; 44]) {
         e: 6,
         f: 7,
     };
-    for n in 0..45 {
-        same(
-            tally,
-            b"para write",
-            para_into(t, numbers, room, n),
-            refused(11),
-        );
-    }
+    same(
+        tally,
+        b"para write",
+        para_into(t, numbers, room, n),
+        refused(11),
+    );
 }
 
-// A type above 4 is refused with 11, whatever the buffer. The case is the type.
-fn type_refused(tally: &mut Tally, t: usize) {
-    let mut room = [KEPT8; 44];
+// A type above 4 is refused with 11 for the buffer of each type, and for others. The case is the type.
+fn type_refused(tally: &mut Tally, t: usize, room: &mut [u8]) {
     at(tally, t as u64);
-    para_writes(tally, t, &mut room);
-    holds(tally, b"buffer", bytes_kept(&room));
+    para_is_refused(tally, t, room, 0);
+    para_is_refused(tally, t, room, 11);
+    para_is_refused(tally, t, room, 12);
+    para_is_refused(tally, t, room, 16);
+    para_is_refused(tally, t, room, 24);
+    para_is_refused(tally, t, room, 28);
+    para_is_refused(tally, t, room, 32);
+    para_is_refused(tally, t, room, 40);
+    holds(tally, b"buffer", bytes_kept(room));
 }
 
 // The para writer: 11 at any width of the type; that 6 comes next is asked of each layout.
-fn para_writer(tally: &mut Tally) {
-    type_refused(tally, 5);
-    type_refused(tally, 255);
-    type_refused(tally, 256);
-    type_refused(tally, 65536);
-    type_refused(tally, 0x1_0000_0000);
-    type_refused(tally, 0xffff_ffff_ffff_ffff);
+fn para_writer(tally: &mut Tally, room: &mut [u8]) {
+    type_refused(tally, 5, room);
+    type_refused(tally, 255, room);
+    type_refused(tally, 256, room);
+    type_refused(tally, 65536, room);
+    type_refused(tally, 0x1_0000_0000, room);
+    type_refused(tally, 0xffff_ffff_ffff_ffff, room);
 }
 
 pub fn of_buffers(tally: &mut Tally) {
+    let mut para_room = [KEPT8; 41];
+    let table = [7u16; 65537];
+    let mut room = [KEPT8; 131087];
     reader(tally);
-    curv_writer(tally);
-    para_writer(tally);
+    curv_writer(tally, &table, &mut room);
+    para_writer(tally, &mut para_room);
 }

@@ -49,30 +49,32 @@ pub fn para_into(t: usize, numbers: Numbers, room: &mut [u8], n: usize) -> u64 {
     0xffff_ffff_ffff_ffff
 }
 
-// That type t and these numbers are written as the tag, into a buffer of just its length.
-pub fn para_written(tally: &mut Tally, tag: &[u8], t: usize, numbers: Numbers) {
+// That type t and these numbers are written as the tag, into a buffer of just its length: one longer or shorter by one is refused with 6.
+fn written_in(tally: &mut Tally, tag: &[u8], t: usize, numbers: Numbers, room: &mut [u8]) {
     let n = tag.len();
+    let more = std::num::wrapping_add_usize(n, 1);
+    let less = std::num::wrapping_sub_usize(n, 1);
+    same(
+        tally,
+        b"write, one too long",
+        para_into(t, numbers, room, more),
+        refused(6),
+    );
+    same(
+        tally,
+        b"write, one too short",
+        para_into(t, numbers, room, less),
+        refused(6),
+    );
+    holds(tally, b"buffer", bytes_kept(room));
+    same(tally, b"write", para_into(t, numbers, room, n), 0);
+    holds(tally, b"written", check::same(first_bytes(room, n), tag));
+    holds(tally, b"beyond", bytes_kept(rest_bytes(room, n)));
+}
+
+pub fn para_written(tally: &mut Tally, tag: &[u8], t: usize, numbers: Numbers) {
     let mut room = [KEPT8; 41];
-    if n < 41 {
-        same(
-            tally,
-            b"write, one too long",
-            para_into(t, numbers, &mut room, n + 1),
-            refused(6),
-        );
-    }
-    if 0 < n {
-        same(
-            tally,
-            b"write, one too short",
-            para_into(t, numbers, &mut room, n - 1),
-            refused(6),
-        );
-    }
-    holds(tally, b"buffer", bytes_kept(&room));
-    same(tally, b"write", para_into(t, numbers, &mut room, n), 0);
-    holds(tally, b"written", check::same(first_bytes(&room, n), tag));
-    holds(tally, b"beyond", bytes_kept(rest_bytes(&room, n)));
+    written_in(tally, tag, t, numbers, &mut room);
 }
 
 // That a tag of type t has these numbers, each as its two's complement, and that they are written as the tag.
