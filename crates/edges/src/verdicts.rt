@@ -120,7 +120,7 @@ fn fill_pairs(table: &mut [u16], pairs: usize, a: u16, b: u16) {
 }
 
 // So many steps against the direction in the first n entries, either way round.
-fn pairs_in(tally: &mut Tally, room: &mut [u16], n: usize, pairs: usize, yes: u64) {
+fn pairs_in(tally: &mut Tally, room: &mut [u16; 65536], n: usize, pairs: usize, yes: u64) {
     at(tally, n as u64);
     fill_pairs(room, pairs, 1, 0);
     rising(tally, first_entries(room, n), yes, pairs as u64);
@@ -129,7 +129,7 @@ fn pairs_in(tally: &mut Tally, room: &mut [u16], n: usize, pairs: usize, yes: u6
 }
 
 // The same edge for more steps, up to the longest table: 20 times as many entries no, one more yes.
-fn many_against(tally: &mut Tally, room: &mut [u16]) {
+fn many_against(tally: &mut Tally, room: &mut [u16; 65536]) {
     pairs_in(tally, room, 40, 2, 0);
     pairs_in(tally, room, 41, 2, 1);
     pairs_in(tally, room, 100, 5, 0);
@@ -216,13 +216,20 @@ fn fill_runs(table: &mut [u16], n: usize, first: usize, last: usize) {
 }
 
 // That n entries with these end runs are so judged.
-fn runs_are(tally: &mut Tally, room: &mut [u16], n: usize, first: usize, last: usize, yes: u64) {
+fn runs_are(
+    tally: &mut Tally,
+    room: &mut [u16; 65536],
+    n: usize,
+    first: usize,
+    last: usize,
+    yes: u64,
+) {
     fill_runs(room, n, first, last);
     degenerate(tally, first_entries(room, n), yes);
 }
 
 // An end run of 19 no, 20 yes, at either end, in tables of any length: no share of the table.
-fn end_runs(tally: &mut Tally, room: &mut [u16]) {
+fn end_runs(tally: &mut Tally, room: &mut [u16; 65536]) {
     runs_are(tally, room, 20, 19, 1, 0);
     runs_are(tally, room, 20, 1, 19, 0);
     runs_are(tally, room, 21, 20, 1, 1);
