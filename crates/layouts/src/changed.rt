@@ -13,10 +13,8 @@ use crate::tags::para_2;
 use crate::tags::para_3;
 use crate::tags::para_4;
 use checks::lists::byte_at;
-use checks::lists::entry_at;
 use checks::lists::first_entries;
 use checks::lists::put_byte;
-use checks::lists::put_entry;
 use checks::tally::Tally;
 use checks::tally::at;
 
@@ -58,6 +56,24 @@ fn with_byte(entry: u16, i: usize, v: u8) -> u16 {
     (entry & 0xff00) | byte
 }
 
+fn with_entry(entries: [u16; 2], i: usize, v: u8) -> [u16; 2] {
+    let mut wanted = entries;
+    if 12 <= i {
+        let k = (i - 12) / 2;
+        if k < 2 {
+            wanted[k] = with_byte(entries[k], i, v);
+        }
+    }
+    wanted
+}
+
+// A curv tag has the first n of these entries.
+fn has_first(tally: &mut Tally, tag: &[u8], entries: &[u16; 2], n: usize) {
+    let mut room = [0u16; 3];
+    let mut bytes = [0u8; 17];
+    curv_has(tally, tag, first_entries(entries, n), &mut room, &mut bytes);
+}
+
 // A curv tag of the entries, whose byte i is v now.
 fn curv_change(tally: &mut Tally, tag: &[u8], entries: [u16; 2], n: usize, i: usize, v: u8) {
     at(tally, case_of(i, v));
@@ -66,14 +82,8 @@ fn curv_change(tally: &mut Tally, tag: &[u8], entries: [u16; 2], n: usize, i: us
         curv_refused(tally, tag, number);
         return;
     }
-    let mut wanted = entries;
-    if 12 <= i {
-        let k = (i - 12) / 2;
-        put_entry(&mut wanted, k, with_byte(entry_at(&entries, k), i, v));
-    }
-    let mut room = [0u16; 3];
-    let mut bytes = [0u8; 17];
-    curv_has(tally, tag, first_entries(&wanted, n), &mut room, &mut bytes);
+    let wanted = with_entry(entries, i, v);
+    has_first(tally, tag, &wanted, n);
 }
 
 // Asks of the tag with v as byte i, where that is another tag, and puts the old byte back.
@@ -187,15 +197,21 @@ fn numbered(count: u64, patterns: [u64; 7]) -> Wanted {
     Wanted { count, patterns }
 }
 
-pub fn every_para_byte(tally: &mut Tally) {
+fn short_para_bytes(tally: &mut Tally) {
     let mut tag_0 = para_0();
     let mut tag_1 = para_1();
     let mut tag_2 = para_2();
-    let mut tag_3 = para_3();
-    let mut tag_4 = para_4();
     let of_0 = [0x0002_3333, 0, 0, 0, 0, 0, 0];
     let of_1 = [0x0002_0000, 0x0001_8000, 0x0000_c000, 0, 0, 0, 0];
     let of_2 = [0x0001_cccd, 0xffff_0000, 0x0000_8000, 0xffff_c000, 0, 0, 0];
+    para_bytes(tally, &mut tag_0, 0, numbered(1, of_0));
+    para_bytes(tally, &mut tag_1, 1, numbered(3, of_1));
+    para_bytes(tally, &mut tag_2, 2, numbered(4, of_2));
+}
+
+fn long_para_bytes(tally: &mut Tally) {
+    let mut tag_3 = para_3();
+    let mut tag_4 = para_4();
     let of_3 = [
         0x0002_6666,
         0x0000_f2a7,
@@ -214,9 +230,11 @@ pub fn every_para_byte(tally: &mut Tally) {
         0xffff_ffff,
         0xfeff_fffd,
     ];
-    para_bytes(tally, &mut tag_0, 0, numbered(1, of_0));
-    para_bytes(tally, &mut tag_1, 1, numbered(3, of_1));
-    para_bytes(tally, &mut tag_2, 2, numbered(4, of_2));
     para_bytes(tally, &mut tag_3, 3, numbered(5, of_3));
     para_bytes(tally, &mut tag_4, 4, numbered(7, of_4));
+}
+
+pub fn every_para_byte(tally: &mut Tally) {
+    short_para_bytes(tally);
+    long_para_bytes(tally);
 }

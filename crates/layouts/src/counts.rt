@@ -31,7 +31,7 @@ fn refused_else(tally: &mut Tally, bytes: &[u8], number: u64) {
 }
 
 // 65,535 and 65,536: 8 but for their own totals.
-fn not_above(tally: &mut Tally, bytes: &mut [u8]) {
+fn not_above(tally: &mut Tally, bytes: &mut [u8; 131087]) {
     put_count(bytes, 0, 0, 0xff, 0xff);
     refused_else(tally, bytes, 8);
     refused_at(tally, bytes, 10, 8);
@@ -58,7 +58,7 @@ fn above(tally: &mut Tally, bytes: &[u8]) {
 }
 
 // 65,537; twice 65,536; 2^31 and one less, one more and 65,536 more; and 2^32 - 1.
-fn each_above(tally: &mut Tally, bytes: &mut [u8]) {
+fn each_above(tally: &mut Tally, bytes: &mut [u8; 131087]) {
     put_count(bytes, 0, 1, 0, 1);
     above(tally, bytes);
     put_count(bytes, 0, 2, 0, 0);

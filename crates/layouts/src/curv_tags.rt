@@ -52,7 +52,7 @@ fn part_is(tally: &mut Tally, tag: &[u8], part: &[u8], number: u64) {
 }
 
 // That a tag is refused with this number for a buffer of 0 to 3 entries, and that the buffer holds what it held.
-fn read_refused(tally: &mut Tally, tag: &[u8], room: &mut [u16], number: u64) {
+fn read_refused(tally: &mut Tally, tag: &[u8], room: &mut [u16; 3], number: u64) {
     same(
         tally,
         b"read into 0",

@@ -130,7 +130,7 @@ fn reader(tally: &mut Tally) {
     reads(tally, &curv_two(), &mut room);
 }
 
-fn written_is(tally: &mut Tally, table: &[u16], room: &mut [u8], n: usize, number: u64) {
+fn written_is(tally: &mut Tally, table: &[u16], room: &mut [u8; 131087], n: usize, number: u64) {
     at(tally, n as u64);
     same(
         tally,
@@ -141,7 +141,7 @@ fn written_is(tally: &mut Tally, table: &[u16], room: &mut [u8], n: usize, numbe
 }
 
 // The curv writer: 1, only above, with a buffer of the table's length too, then 6, where a length cut to 16 bits would suit too.
-fn curv_writer(tally: &mut Tally, table: &[u16], room: &mut [u8]) {
+fn curv_writer(tally: &mut Tally, table: &[u16], room: &mut [u8; 131087]) {
     written_is(tally, table, room, 131086, 1);
     written_is(tally, table, room, 131085, 1);
     written_is(tally, table, room, 14, 1);
@@ -153,7 +153,7 @@ fn curv_writer(tally: &mut Tally, table: &[u16], room: &mut [u8]) {
     holds(tally, b"buffer", bytes_kept(room));
 }
 
-fn para_is_refused(tally: &mut Tally, t: usize, room: &mut [u8], n: usize) {
+fn para_is_refused(tally: &mut Tally, t: usize, room: &mut [u8; 41], n: usize) {
     let numbers = Numbers {
         g: 1,
         a: 2,
@@ -172,7 +172,7 @@ fn para_is_refused(tally: &mut Tally, t: usize, room: &mut [u8], n: usize) {
 }
 
 // A type above 4 is refused with 11 for the buffer of each type, and for others. The case is the type.
-fn type_refused(tally: &mut Tally, t: usize, room: &mut [u8]) {
+fn type_refused(tally: &mut Tally, t: usize, room: &mut [u8; 41]) {
     at(tally, t as u64);
     para_is_refused(tally, t, room, 0);
     para_is_refused(tally, t, room, 11);
@@ -186,7 +186,7 @@ fn type_refused(tally: &mut Tally, t: usize, room: &mut [u8]) {
 }
 
 // The para writer: 11 at any width of the type; that 6 comes next is asked of each layout.
-fn para_writer(tally: &mut Tally, room: &mut [u8]) {
+fn para_writer(tally: &mut Tally, room: &mut [u8; 41]) {
     type_refused(tally, 5, room);
     type_refused(tally, 255, room);
     type_refused(tally, 256, room);

@@ -50,7 +50,7 @@ pub fn para_into(t: usize, numbers: Numbers, room: &mut [u8], n: usize) -> u64 {
 }
 
 // That type t and these numbers are written as the tag, into a buffer of just its length: one longer or shorter by one is refused with 6.
-fn written_in(tally: &mut Tally, tag: &[u8], t: usize, numbers: Numbers, room: &mut [u8]) {
+fn written_in(tally: &mut Tally, tag: &[u8], t: usize, numbers: Numbers, room: &mut [u8; 41]) {
     let n = tag.len();
     let more = std::num::wrapping_add_usize(n, 1);
     let less = std::num::wrapping_sub_usize(n, 1);
