@@ -2,7 +2,7 @@
 use borrow.Author.Needs.{needs}
 use native.Mathlib.Nat.{lt-of-lt-of-le}
 use lib.Dec.{lit≤}
-use Rattle.para.proofs.Complement.{above-casts, below-casts}
+use Rattle.para_writer.proofs.Complement.{above-casts, below-casts}
 use Rattle.checks.proofs.answers.of_i32.Statement.{statement}
 use Rattle.checks.proofs.answers.of_i32.Tie as tie
 
