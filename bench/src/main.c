@@ -1,8 +1,9 @@
 /* The benchmark's program. It measures nothing before it has seen that both sides give the same answers.
-   usage: bench check                   compares the answers of all sides; how far Little CMS's lookups are from ours
-          bench time                    call, side, n, nanoseconds for each answer
-          bench list                    call, side, n, two counts, and the answers that lie between them
-          bench count CALL SIDE N COUNT does the work once, for a counter of instructions around it */
+   usage, on a curve of N entries:
+          bench check N                 compares the answers of all sides; how far Little CMS's lookups are from ours
+          bench time N                  call, side, N, nanoseconds for each answer
+          bench list N                  call, side, N, two counts, and the answers that lie between them
+          bench count N CALL SIDE COUNT does the work once, for a counter of instructions around it */
 #include "brassgroat.h"
 #include "questions.h"
 #include "work.h"
@@ -16,7 +17,6 @@
 enum { MOST_SIDES = 8, LEAST_ROUNDS = 30, COUNTED = 3000 };
 
 static const double SECONDS_EACH = 0.3;
-static const size_t SIZES[] = {256, 1024, 4096, 65536};
 
 /* How many answers one count stands for. */
 enum each { ONE, EVERY_ENTRY, EVERY_POSITION, EVERY_INVERTED };
@@ -32,13 +32,13 @@ static const struct call CALLS[] = {
     {"loop", ONE, QUESTIONS, 1000, COUNTED},
     {"lookup", ONE, QUESTIONS, 1000, COUNTED},
     {"row", ONE, QUESTIONS, 1000, COUNTED},
-    {"bake", EVERY_POSITION, 1, 1, 3},
+    {"bake", EVERY_POSITION, 1, 1, 2},
     {"baked-row", ONE, QUESTIONS, 1000, COUNTED},
     {"baked-row-near", ONE, QUESTIONS, 1000, COUNTED},
     {"least", ONE, 1024, 10, 40},
     {"least-row", ONE, QUESTIONS, 1000, COUNTED},
     {"inverse", ONE, QUESTIONS, 1000, COUNTED},
-    {"invert", EVERY_INVERTED, 1, 1, 3},
+    {"invert", EVERY_INVERTED, 1, 1, 2},
     {"read", EVERY_ENTRY, 16, 2, 6},
     {"write", EVERY_ENTRY, 16, 2, 6},
     {"accept", EVERY_ENTRY, 64, 10, 40},
@@ -181,19 +181,16 @@ static void compare_lcms(struct work *work) {
 }
 #endif
 
-static int check(void) {
-    for (size_t i = 0; i < COUNT_OF(SIZES); i++) {
-        struct work work = prepared(SIZES[i], QUESTIONS);
-        bake_curve(&work);
-        for (size_t c = 0; c < COUNT_OF(CALLS); c++)
-            check_call(&CALLS[c], &work);
-        check_least(&work);
-        check_fall(&work);
+static void check(size_t n) {
+    struct work work = prepared(n, QUESTIONS);
+    bake_curve(&work);
+    for (size_t i = 0; i < COUNT_OF(CALLS); i++)
+        check_call(&CALLS[i], &work);
+    check_least(&work);
+    check_fall(&work);
 #ifdef WITH_LCMS
-        compare_lcms(&work);
+    compare_lcms(&work);
 #endif
-    }
-    return 0;
 }
 
 static double seconds(void) {
@@ -231,34 +228,28 @@ static void time_call(const struct call *call, struct work *work) {
                1e9 * best[i] / (double)(call->timed * answers(call, work->n)));
 }
 
-static int time_all(void) {
-    for (size_t i = 0; i < COUNT_OF(SIZES); i++) {
-        struct work work = prepared(SIZES[i], QUESTIONS);
-        bake_curve(&work);
-        for (size_t c = 0; c < COUNT_OF(CALLS); c++)
-            time_call(&CALLS[c], &work);
-    }
-    return 0;
+static void time_all(size_t n) {
+    struct work work = prepared(n, QUESTIONS);
+    bake_curve(&work);
+    for (size_t i = 0; i < COUNT_OF(CALLS); i++)
+        time_call(&CALLS[i], &work);
 }
 
-static int list(void) {
-    for (size_t i = 0; i < COUNT_OF(SIZES); i++) {
-        struct work work = prepared(SIZES[i], QUESTIONS);
-        for (size_t c = 0; c < COUNT_OF(CALLS); c++) {
-            const struct call *call = &CALLS[c];
-            struct side sides[MOST_SIDES];
-            size_t count = sides_of(call, &work, sides);
-            for (size_t s = 0; s < count; s++)
-                printf("%s %s %zu %zu %zu %zu\n", call->name, sides[s].who, work.n, call->few, call->more,
-                       (call->more - call->few) * answers(call, work.n));
-        }
+static void list(size_t n) {
+    struct work work = prepared(n, COUNTED);
+    for (size_t i = 0; i < COUNT_OF(CALLS); i++) {
+        const struct call *call = &CALLS[i];
+        struct side sides[MOST_SIDES];
+        size_t count = sides_of(call, &work, sides);
+        for (size_t s = 0; s < count; s++)
+            printf("%s %s %zu %zu %zu %zu\n", call->name, sides[s].who, n, call->few, call->more,
+                   (call->more - call->few) * answers(call, n));
     }
-    return 0;
 }
 
 /* What comes before the work is the same for every count, so that it drops out of a difference, and short, since a counter
    makes everything slow: few questions are drawn, and the curve is baked only for the calls that want it. */
-static int count_one(const char *name, const char *who, size_t n, size_t count) {
+static void count_one(size_t n, const char *name, const char *who, size_t count) {
     const struct call call = {.name = name};
     struct work work = prepared(n, COUNTED);
     struct side sides[MOST_SIDES];
@@ -269,21 +260,24 @@ static int count_one(const char *name, const char *who, size_t n, size_t count) 
     for (size_t i = 0; i < found; i++)
         if (strcmp(sides[i].who, who) == 0) {
             kept = sides[i].run(&work);
-            return 0;
+            return;
         }
     give_up("no such side", name, n);
-    return 1;
 }
 
 int main(int words, char **word) {
-    if (words == 2 && strcmp(word[1], "check") == 0)
-        return check();
-    if (words == 2 && strcmp(word[1], "time") == 0)
-        return time_all();
-    if (words == 2 && strcmp(word[1], "list") == 0)
-        return list();
-    if (words == 6 && strcmp(word[1], "count") == 0)
-        return count_one(word[2], word[3], strtoul(word[4], NULL, 10), strtoul(word[5], NULL, 10));
-    fputs("usage: bench check | time | list | count CALL SIDE N COUNT\n", stderr);
-    return 2;
+    size_t n = words < 3 ? 0 : strtoul(word[2], NULL, 10);
+    if (n < 3 || 65536 < n) {
+        fputs("usage: bench check | time | list N, or bench count N CALL SIDE COUNT; N from 3 to 65536\n", stderr);
+        return 2;
+    }
+    if (strcmp(word[1], "check") == 0)
+        check(n);
+    else if (strcmp(word[1], "time") == 0)
+        time_all(n);
+    else if (strcmp(word[1], "list") == 0)
+        list(n);
+    else if (words == 6)
+        count_one(n, word[3], word[4], strtoul(word[5], NULL, 10));
+    return 0;
 }
