@@ -61,7 +61,7 @@ function row(kind, name, n,    ours, called, inlined, lcms) {
 
 function table(kind, title,    c, s) {
     if (!have[kind]) return
-    printf "\n## %s\n\n", title
+    printf "\n### %s\n\n", title
     print "| call | n | ours | the Rust, called | the Rust, in its own loop | Little CMS | ours to called | ours to its own loop | ours to Little CMS |"
     print "|---|---|---|---|---|---|---|---|---|"
     for (c = 1; c <= calls; c++)
@@ -80,7 +80,7 @@ function target(words, name, side, most) {
 }
 
 function targets() {
-    print "\n## Targets, at n = 1,024\n"
+    print "\n### Targets, at n = 1,024\n"
     print "Ratios, ours to the other's; in bold where the target is missed.\n"
     print "| what | at most | instructions | ns |"
     print "|---|---|---|---|"
@@ -116,7 +116,7 @@ function whole(name, n,    x) {
 
 function growths() {
     if (!have["instructions"]) return
-    print "\n## How cost grows\n"
+    print "\n### How cost grows\n"
     print "Executed instructions of our whole calls.\n"
     print "| call | n = 256 | 1,024 | 4,096 | 65,536 |"
     print "|---|---|---|---|---|"
