@@ -25,7 +25,7 @@ cmp a b = go (compare a b) (leb→le a b) (nleb→lt a b) (eqb→eq a b) (λ (e 
     go Ordering·eq h k e n = e tt
     go Ordering·gt h k e n = k tt
 
--- ---- by twice the remainder: less than the divisor, more, or a tie
+-- ---- by twice the remainder
 pub closest-less : (n d : ℕ) → n % d * 2 < d → closest n d ≡ n / d
 closest-less n d h = go (compare (n % d * 2) d) (cmp (n % d * 2) d)
   where
@@ -34,20 +34,21 @@ closest-less n d h = go (compare (n % d * 2) d) (cmp (n % d * 2) d)
     go Ordering·eq k = omega arith
     go Ordering·gt k = omega arith
 
-pub closest-more : (n d : ℕ) → d < n % d * 2 → closest n d ≡ n / d + 1
-closest-more n d h = go (compare (n % d * 2) d) (cmp (n % d * 2) d)
+-- an odd quotient turns a tie into more than the divisor
+pub closest-up : (n d : ℕ) → d < n % d * 2 + n / d % 2 → closest n d ≡ n / d + 1
+closest-up n d h = go (compare (n % d * 2) d) (cmp (n % d * 2) d)
   where
     go : (o : Ordering) → Cmp o (n % d * 2) d → nearest (n / d) o ≡ n / d + 1
     go Ordering·lt k = omega arith
     go Ordering·eq k = omega arith
     go Ordering·gt k = omega arith
 
-pub closest-tie : (n d : ℕ) → n % d * 2 ≡ d → closest n d ≡ n / d + n / d % 2
-closest-tie n d h = go (compare (n % d * 2) d) (cmp (n % d * 2) d)
+pub closest-down : (n d : ℕ) → n % d * 2 + n / d % 2 ≤ d → closest n d ≡ n / d
+closest-down n d h = go (compare (n % d * 2) d) (cmp (n % d * 2) d)
   where
-    go : (o : Ordering) → Cmp o (n % d * 2) d → nearest (n / d) o ≡ n / d + n / d % 2
-    go Ordering·lt k = omega arith
-    go Ordering·eq k = refl
+    go : (o : Ordering) → Cmp o (n % d * 2) d → nearest (n / d) o ≡ n / d
+    go Ordering·lt k = refl
+    go Ordering·eq k = omega arith
     go Ordering·gt k = omega arith
 
 -- ---- between bounds

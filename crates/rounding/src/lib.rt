@@ -10,20 +10,17 @@ ghost use Rattle.rounding.specs.Size.{MinPromise, AbsPromise};
 
 pub mod inside; // inside.rt: floor and ceil
 
-// n / d to the nearest whole number, a tie to the even one.
+// n / d to the nearest whole number, a tie to the even one. One test decides, so that no branch hangs on digits that are as good as random.
 fn nearest_quotient(n: u64, d: u64) -> u64
     requires { ⌜ 0 < d ⌝ ∗ ⌜ d ≤ 0x4000_0000_0000_0000 ⌝ ∗ ⌜ n < 0x4000_0000_0000_0000 ⌝ }
     ensures { λ r. ⌜ r ≡ closest n d ⌝ }
 {
     let q = n / d;
     let twice = n % d * 2;
-    if twice < d {
-        return q;
-    }
-    if d < twice {
+    if d < twice + q % 2 {
         return q + 1;
     }
-    q + q % 2
+    q
 }
 
 // The bit pattern, without its sign, of the f32 nearest to the f64 that has `exponent` in its exponent's field and `digits` in the one below.

@@ -1,0 +1,48 @@
+/* What is measured, and on what: a curve in every form that a call wants, the questions, and room for the answers. */
+#ifndef WORK_H
+#define WORK_H
+
+#include <stdbool.h>
+#include <stddef.h>
+#include <stdint.h>
+
+enum { QUESTIONS = 16384, INVERTED = 4096, POSITIONS = 65536, TAG_HEAD = 12 };
+
+struct work {
+    size_t n;                /* entries of the curve */
+    size_t count;            /* questions to ask, or whole tables to do */
+    uint16_t *table;         /* the curve */
+    float *floats;           /* the curve, 1 for 65535 */
+    uint16_t *baked;         /* its answers at every position */
+    uint8_t *tag;            /* the curve as a curv tag */
+    uint16_t *asked;         /* positions or values, anywhere */
+    uint16_t *asked_near;    /* positions that wander, each near the one before it, as along a row of a picture */
+    float *asked_f32;        /* numbers from 0 to 1 */
+    double *asked_f64;       /* the same */
+    uint16_t *out;           /* answers: a row, a baked, an inverted or a read table */
+    uint32_t *out_wide;      /* answers: a row of inverses */
+    uint8_t *out_tag;        /* answers: a written tag */
+    void *rust_tag;          /* what the Rust writes its tag from and to */
+    void *lcms_curve;        /* the curve as Little CMS keeps it; NULL where it takes none so long */
+};
+
+/* Asks work->count questions, or does as many whole tables. The sum of the answers; of calls that fill a buffer, of what
+   they return. */
+typedef uint64_t piece(const struct work *work);
+
+/* One side of a comparison. */
+struct side {
+    const char *call;        /* what is done, as in the list of calls */
+    const char *who;         /* ours, called, inlined or lcms */
+    bool same;               /* whether its answers must be those of our side */
+    piece *run;
+};
+
+extern const struct side our_sides[], rust_sides[], lcms_sides[];
+void rust_prepare(struct work *work);
+void rust_settle(struct work *work); /* brings what the Rust wrote into work->out_tag */
+void lcms_prepare(struct work *work);
+uint16_t lcms_lookup(const struct work *work, uint16_t position);
+uint16_t same(const uint16_t *table, size_t n, uint16_t position); /* gives back the position, for the cost of a loop of calls */
+
+#endif

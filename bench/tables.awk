@@ -1,0 +1,139 @@
+# The tables of docs/BENCHMARK.md, from a file of instructions and one of nanoseconds, with lines of: call, side, n, number.
+# Where a line comes again, the least number counts. Ratios are ours over the other's: below 1 we take less.
+
+BEGIN {
+    sizes = split("256 1024 4096 65536", size, " ")
+    thousands["256"] = "256"; thousands["1024"] = "1,024"; thousands["4096"] = "4,096"; thousands["65536"] = "65,536"
+    calls = split("lookup row bake baked-row baked-row-near least least-row inverse invert read write accept sorted nudge float linear loop", call, " ")
+    label["lookup"] = "one lookup"
+    label["row"] = "a row of lookups"
+    label["bake"] = "bake, each position"
+    label["baked-row"] = "a row on the baked table; the Rust: its row on the curve"
+    label["baked-row-near"] = "the same, each position near the one before it"
+    label["least"] = "one least input; the Rust: its inverse"
+    label["least-row"] = "a row of least inputs; the Rust: its inverse for each"
+    label["inverse"] = "one inverse"
+    label["invert"] = "`invert_lut` to 4,096 entries, each; Little CMS: a reversed curve"
+    label["read"] = "curv read, each entry; the Rust: a plain loop"
+    label["write"] = "curv write, each entry"
+    label["accept"] = "accept, each entry; the Rust: a plain loop over neighbours"
+    label["sorted"] = "accept, each entry; the Rust: `is_sorted`"
+    label["nudge"] = "one nudge"
+    label["float"] = "`lut_interp_linear_float`"
+    label["linear"] = "`lut_interp_linear`"
+    label["loop"] = "the loop around single calls, by itself"
+}
+
+{
+    kind = FILENAME ~ /instructions$/ ? "instructions" : "ns"
+    have[kind] = 1
+    keep(kind, $1, $2, $3, $4)
+    # accept stands in two rows, against either of the Rust's loops
+    if ($1 == "accept" && $2 == "ours") keep(kind, "sorted", "ours", $3, $4)
+    if ($1 == "accept" && $2 == "sorted") keep(kind, "sorted", "inlined", $3, $4)
+}
+
+function keep(kind, name, side, n, x) {
+    if (!((kind, name, side, n) in value) || x + 0 < value[kind, name, side, n] + 0)
+        value[kind, name, side, n] = x
+}
+
+function shown(x) {
+    if (x == "") return ""
+    if (x < 10) return sprintf("%.2f", x)
+    if (x < 1000) return sprintf("%.1f", x)
+    return sprintf("%.0f", x)
+}
+
+function ratio(a, b) { return a == "" || b == "" || b == 0 ? "" : sprintf("%.2f", a / b) }
+
+function at(kind, name, side, n) { return value[kind, name, side, n] }
+
+function row(kind, name, n,    ours, called, inlined, lcms) {
+    ours = at(kind, name, "ours", n)
+    if (ours == "") return
+    called = at(kind, name, "called", n)
+    inlined = at(kind, name, "inlined", n)
+    lcms = at(kind, name, "lcms", n)
+    printf "| %s | %s | %s | %s | %s | %s | %s | %s | %s |\n", label[name], thousands[n], shown(ours), shown(called), \
+        shown(inlined), shown(lcms), ratio(ours, called), ratio(ours, inlined), ratio(ours, lcms)
+}
+
+function table(kind, title,    c, s) {
+    if (!have[kind]) return
+    printf "\n### %s\n\n", title
+    print "| call | n | ours | the Rust, called | the Rust, in its own loop | Little CMS | ours to called | ours to its own loop | ours to Little CMS |"
+    print "|---|---|---|---|---|---|---|---|---|"
+    for (c = 1; c <= calls; c++)
+        for (s = 1; s <= sizes; s++)
+            row(kind, call[c], size[s])
+}
+
+function judged(kind, name, side, most,    r) {
+    r = ratio(at(kind, name, "ours", 1024), at(kind, name, side, 1024))
+    if (r == "" || most == "") return r
+    return r + 0 <= most + 0 ? r : "**" r "**"
+}
+
+function target(words, name, side, most) {
+    printf "| %s | %s | %s | %s |\n", words, most == "" ? "judged later" : most, judged("instructions", name, side, most), judged("ns", name, side, most)
+}
+
+function targets() {
+    print "\n### Targets, at n = 1,024\n"
+    print "Ratios, ours to the other's; in bold where the target is missed.\n"
+    print "| what | at most | instructions | ns |"
+    print "|---|---|---|---|"
+    target("a row on the baked table, to the Rust's row", "baked-row", "inlined", "0.20")
+    target("the same, each position near the one before it", "baked-row-near", "inlined", "0.20")
+    target("one lookup, to Little CMS's", "lookup", "lcms", "0.80")
+    target("one inverse, to the Rust's", "inverse", "called", "1.00")
+    target("`invert_lut`, to the Rust's", "invert", "inlined", "1.00")
+    target("a row of least inputs, to the Rust's inverse for each value", "least-row", "inlined", "0.50")
+    target("accept, to a plain Rust loop over neighbours", "accept", "inlined", "1.00")
+    target("`lut_interp_linear_float`, to the Rust's", "float", "called", "1.20")
+    target("`lut_interp_linear`, to the Rust's", "linear", "called", "1.20")
+    target("one lookup, to the Rust's", "lookup", "called", "")
+    target("a row of lookups, to the Rust's row", "row", "inlined", "")
+}
+
+# A line of whole calls; less is the call whose cost is taken off, or nothing.
+function growth(words, name, less,    s, n, x) {
+    printf "| %s |", words
+    for (s = 1; s <= sizes; s++) {
+        n = size[s]
+        x = whole(name, n)
+        if (x != "" && less != "") x -= whole(less, n)
+        printf " %s |", shown(x)
+    }
+    print ""
+}
+
+function whole(name, n,    x) {
+    x = at("instructions", name, "ours", n)
+    return x == "" || name != "accept" ? x : x * n
+}
+
+function growths() {
+    if (!have["instructions"]) return
+    print "\n### How cost grows\n"
+    print "Executed instructions of our whole calls.\n"
+    print "| call | n = 256 | 1,024 | 4,096 | 65,536 |"
+    print "|---|---|---|---|---|"
+    growth("one lookup", "lookup", "")
+    growth("a row of one lookup", "row-of-one", "")
+    growth("accept: one scan of the order", "accept", "")
+    growth("one nudge", "nudge", "")
+    growth("one nudge, less accept", "nudge", "accept")
+    growth("one least input", "least", "")
+    growth("one least input, less accept", "least", "accept")
+    growth("a row of one least input, less accept", "least-row-of-one", "accept")
+    growth("a row of least inputs, for each value more", "least-row", "")
+}
+
+END {
+    targets()
+    growths()
+    table("instructions", "Executed instructions for each answer")
+    table("ns", "Nanoseconds for each answer, the best of many rounds")
+}
