@@ -1,6 +1,8 @@
 // The words of a request line, read as they come in: names, numbers, lists and bytes. Nothing is held as text but a name or a path, so
-// a line may be as long as it likes. Each reading takes the streams with the first byte of its word in view and leaves them at the byte after it.
+// a line may be as long as it likes. Each reading begins at the next word, and leaves the streams at the byte after it.
 mod bytes;
+mod held;
+mod lasts;
 mod lists;
 mod numbers;
 mod problems;
@@ -8,12 +10,21 @@ mod words;
 
 pub use bytes::ReadBytes;
 pub use bytes::Taken;
-pub use bytes::read_bytes;
+pub use held::Items;
+pub use held::ReadItems;
+pub use held::read_items;
+pub use lasts::ReadText;
+pub use lasts::Text;
+pub use lasts::last_bytes;
+pub use lasts::last_items;
+pub use lasts::last_number;
+pub use lasts::last_word;
 pub use lists::Filled;
 pub use lists::List;
 pub use lists::Opened;
 pub use lists::Stage;
 pub use lists::fill_row;
+pub use lists::goes_on;
 pub use lists::open_list;
 pub use numbers::Got;
 pub use numbers::Place;
@@ -23,7 +34,6 @@ pub use problems::Problem;
 pub use problems::put_problem;
 pub use words::ReadWord;
 pub use words::ends_line;
-pub use words::ends_word;
 pub use words::named;
 pub use words::next_line;
 pub use words::read_word;

@@ -245,7 +245,7 @@ fn step(
     }
 }
 
-fn goes_on(list: List) -> bool {
+pub fn goes_on(list: List) -> bool {
     let stage = list.stage;
     match stage {
         Stage::Item(_) | Stage::Run | Stage::Past => true,

@@ -14,7 +14,7 @@ returns : tie.Need-returns
 returns c = search needs
 
 float-to-bits-wide : tie.Need-float-to-bits-wide
-float-to-bits-wide c = not-nan (c .before .before .before .args .x) (c .before .if1 .left)
+float-to-bits-wide c = not-nan (c .before .before .args .x) (c .before .if1 .left)
 
 wide-requires : tie.Need-wide-requires
 wide-requires c κs = search needs
