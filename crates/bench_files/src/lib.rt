@@ -126,13 +126,7 @@ fn placed(whole: bool, name: &[u8], path: &[u8]) -> bool {
 }
 
 // Ends a draft of which everything was written or not; whether the file is in its place.
-pub fn finish(
-    draft: Draft,
-    written: bool,
-    path: &[u8; 4096],
-    n: u64,
-    name: &[u8; 4096],
-) -> bool {
+pub fn finish(draft: Draft, written: bool, path: &[u8; 4096], n: u64, name: &[u8; 4096]) -> bool {
     let whole = written && settled(draft.fd);
     let closed = libc::close(draft.fd);
     placed(

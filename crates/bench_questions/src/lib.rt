@@ -17,6 +17,8 @@ use bench_words::fill_row;
 use bench_words::goes_on;
 use bench_words::open_list;
 use bench_words::put_problem;
+use bench_words::raw;
+use bench_words::short;
 use bench_words::skip_spaces;
 use interp::Interpolated;
 use lookup::Coded;
@@ -49,19 +51,6 @@ fn place_of(question: Question) -> Place {
         Question::Float => Place::Single,
         Question::Raw => Place::Raw,
     }
-}
-
-// A number that suits a place of 16 bits: nothing is cut.
-pub fn short(value: u64) -> u16 {
-    (value % 65536) as u16
-}
-
-// The raw number of a code, which is 2^31 more.
-pub fn raw(code: u64) -> i32 {
-    if code < 0x8000_0000 {
-        return !((0x7fff_ffff - code) as i32);
-    }
-    (code % 0x8000_0000) as i32
 }
 
 fn put_looked(s: Streams, output: &mut [u8; 65535], answer: Looked) -> Streams {
@@ -107,11 +96,7 @@ fn put_answer(
             output,
             lookup::lut_interp_linear16(table, Drive(short(value))),
         ),
-        Question::Least => put_sought(
-            s,
-            output,
-            least::least_input(table, Density(short(value))),
-        ),
+        Question::Least => put_sought(s, output, least::least_input(table, Density(short(value)))),
         Question::Inverse => put_sought(
             s,
             output,
@@ -132,16 +117,8 @@ fn put_answer(
             output,
             interp::lut_interp_linear_float(floats, single(value)),
         ),
-        Question::Fixed8 => put_float(
-            s,
-            output,
-            rounding::u8_fixed_8number_to_float(short(value)),
-        ),
-        Question::Raw => put_float(
-            s,
-            output,
-            rounding::s15_fixed16_number_to_float(raw(value)),
-        ),
+        Question::Fixed8 => put_float(s, output, rounding::u8_fixed_8number_to_float(short(value))),
+        Question::Raw => put_float(s, output, rounding::s15_fixed16_number_to_float(raw(value))),
         Question::House => put_looked(s, output, house::entry(value as usize)),
     }
 }

@@ -12,25 +12,21 @@ use bench_kept::entries;
 use bench_words::Got;
 use bench_words::Items;
 use bench_words::Place;
+use bench_words::Problem;
 use bench_words::Text;
 use bench_words::last_items;
 use bench_words::last_number;
 use bench_words::last_word;
 use bench_words::named;
-use bench_words::Problem;
 use bench_words::put_problem;
 use bench_words::read_number;
+use bench_words::short;
 use matan::Degenerated;
 use matan::Direction;
 use matan::Monotonic;
 use table::Density;
 use table::Done;
 ghost use Prim.Native.Nat.{_≤_};
-
-// A number that suits a place of 16 bits: nothing is cut.
-fn short(value: u64) -> u16 {
-    (value % 65536) as u16
-}
 
 // How many of n fit a buffer of 65,537.
 fn at_most(n: usize) -> usize

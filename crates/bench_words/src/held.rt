@@ -1,11 +1,11 @@
 // Lists that the program holds: at most 65,537 items, one more than a table may have.
-use bench_io::Streams;
 use crate::lists::Stage;
 use crate::lists::fill_row;
 use crate::lists::goes_on;
 use crate::lists::open_list;
 use crate::numbers::Place;
 use crate::problems::Problem;
+use bench_io::Streams;
 
 // A list that was read: how many items there are in the lent buffer, or what is wrong.
 pub enum Items {

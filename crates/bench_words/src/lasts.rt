@@ -1,5 +1,4 @@
 // Words that end a line: a number, a list that is held, bytes, a name or a path. A word after them is too many.
-use bench_io::Streams;
 use crate::bytes::ReadBytes;
 use crate::bytes::Taken;
 use crate::bytes::read_bytes;
@@ -15,6 +14,7 @@ use crate::words::ReadWord;
 use crate::words::ends_line;
 use crate::words::read_word;
 use crate::words::skip_spaces;
+use bench_io::Streams;
 
 // A word that was read as text: its length, or what is wrong.
 pub enum Text {

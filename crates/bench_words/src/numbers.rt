@@ -294,3 +294,16 @@ fn whole_word(sum: Sum, now: u16) -> Got {
         Sum::OneAbove | Sum::Wrong => Got::Wrong(Problem::BadNumber),
     }
 }
+
+// The number of a code that suits a place of 16 bits: nothing is cut.
+pub fn short(code: u64) -> u16 {
+    (code % 65536) as u16
+}
+
+// The raw number of a code, which is 2^31 more.
+pub fn raw(code: u64) -> i32 {
+    if code < 0x8000_0000 {
+        return !((0x7fff_ffff - code) as i32);
+    }
+    (code % 0x8000_0000) as i32
+}
