@@ -1,7 +1,7 @@
 // The bench program: the whole library at a prompt. It reads standard input to its end, one request a line, and answers each with a line.
 // docs/GROAT.md is its language.
-use answers::Answered;
-use answers::answer;
+use crate::answers::Answered;
+use crate::answers::answer;
 use bench_io::INPUT_END;
 use bench_io::Streams;
 use bench_io::advance;
@@ -12,7 +12,7 @@ use bench_kept::Kept;
 use bench_words::next_line;
 use bench_words::read_word;
 use bench_words::skip_spaces;
-use requests::request_named;
+use crate::requests::request_named;
 
 mod answers;
 mod changes;
