@@ -1,6 +1,5 @@
 // Files for the bench program: bytes from a file, and a file that is written beside its place and renamed, so that no half file is left.
 // A path is a word in a buffer of 4,096 bytes with its whole length: one that is longer fills the buffer, which is no path, and is refused.
-ghost use Prim.Native.Nat.{_≤_, _+_};
 
 pub enum Loaded {
     Bytes(usize),

@@ -1,41 +1,26 @@
-// The words of a request line, read as they come in: names, numbers, lists and bytes. Nothing is held as text but a name or a path, so
-// a line may be as long as it likes. Each reading begins at the next word, and leaves the streams at the byte after it.
-mod bytes;
-mod held;
-mod lasts;
-mod lists;
+// The words of a request line, read as they come in: names and numbers. Nothing is held as text but a name or a path, so a line may be as
+// long as it likes. Each reading leaves the streams at the byte after its word.
 mod numbers;
 mod problems;
 mod words;
 
-pub use bytes::ReadBytes;
-pub use bytes::Taken;
-pub use held::Items;
-pub use held::ReadItems;
-pub use held::read_items;
-pub use lasts::ReadText;
-pub use lasts::Text;
-pub use lasts::last_bytes;
-pub use lasts::last_items;
-pub use lasts::last_number;
-pub use lasts::last_word;
-pub use lists::Filled;
-pub use lists::List;
-pub use lists::Opened;
-pub use lists::Stage;
-pub use lists::fill_row;
-pub use lists::goes_on;
-pub use lists::open_list;
 pub use numbers::Got;
 pub use numbers::Place;
 pub use numbers::ReadNumber;
+pub use numbers::ReadSum;
+pub use numbers::Sum;
+pub use numbers::hex_value;
+pub use numbers::is_decimal;
+pub use numbers::largest;
 pub use numbers::raw;
 pub use numbers::read_number;
+pub use numbers::read_sum;
 pub use numbers::short;
 pub use problems::Problem;
 pub use problems::put_problem;
 pub use words::ReadWord;
 pub use words::ends_line;
+pub use words::ends_word;
 pub use words::named;
 pub use words::next_line;
 pub use words::read_word;

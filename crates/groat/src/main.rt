@@ -2,6 +2,7 @@
 // docs/GROAT.md is its language.
 use crate::answers::Answered;
 use crate::answers::answer;
+use crate::requests::request_named;
 use bench_io::INPUT_END;
 use bench_io::Streams;
 use bench_io::advance;
@@ -12,7 +13,6 @@ use bench_kept::Kept;
 use bench_words::next_line;
 use bench_words::read_word;
 use bench_words::skip_spaces;
-use crate::requests::request_named;
 
 mod answers;
 mod changes;

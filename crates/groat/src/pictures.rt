@@ -5,9 +5,9 @@ use bench_io::Streams;
 use bench_io::put;
 use bench_io::put_byte;
 use bench_kept::bytes;
+use bench_lists::Text;
+use bench_lists::last_word;
 use bench_words::Problem;
-use bench_words::Text;
-use bench_words::last_word;
 use bench_words::put_problem;
 use table::Refusal;
 

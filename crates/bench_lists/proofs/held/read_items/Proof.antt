@@ -1,6 +1,6 @@
 use borrow.Author.Needs.{needs}
-use Rattle.bench_words.proofs.held.read_items.Statement.{statement}
-use Rattle.bench_words.proofs.held.read_items.Tie as tie
+use Rattle.bench_lists.proofs.held.read_items.Statement.{statement}
+use Rattle.bench_lists.proofs.held.read_items.Tie as tie
 
 abbrev Inv-loop : tie.InvT-loop
 Inv-loop input₀ output place codes₀ row₀ here₀ list₀ n₀ turns₀ input codes row here list n turns = Unit {0}

@@ -1,6 +1,6 @@
 use borrow.Author.Needs.{needs}
-use Rattle.bench_words.proofs.lists.fill_row.Statement.{statement}
-use Rattle.bench_words.proofs.lists.fill_row.Tie as tie
+use Rattle.bench_lists.proofs.lists.fill_row.Statement.{statement}
+use Rattle.bench_lists.proofs.lists.fill_row.Tie as tie
 
 abbrev Inv-loop : tie.InvT-loop
 Inv-loop input₀ output place row₀ list₀ here₀ n₀ turns₀ input row list here n turns = Unit {0}

@@ -3,9 +3,9 @@ use crate::lists::Stage;
 use crate::lists::fill_row;
 use crate::lists::goes_on;
 use crate::lists::open_list;
-use crate::numbers::Place;
-use crate::problems::Problem;
 use bench_io::Streams;
+use bench_words::Place;
+use bench_words::Problem;
 
 // A list that was read: how many items there are in the lent buffer, or what is wrong.
 pub enum Items {

@@ -1,15 +1,15 @@
 // Lists, read a row of 1,024 items at a time: `V`, `V*K` and `A:B`, parted by commas, or `-` for none.
-use crate::numbers::Place;
-use crate::numbers::Sum;
-use crate::numbers::is_decimal;
-use crate::numbers::largest;
-use crate::numbers::read_sum;
-use crate::problems::Problem;
-use crate::words::ends_line;
-use crate::words::ends_word;
-use crate::words::skip_spaces;
 use bench_io::Streams;
 use bench_io::advance;
+use bench_words::Place;
+use bench_words::Problem;
+use bench_words::Sum;
+use bench_words::ends_line;
+use bench_words::ends_word;
+use bench_words::is_decimal;
+use bench_words::largest;
+use bench_words::read_sum;
+use bench_words::skip_spaces;
 
 // How far a list has been read.
 pub enum Stage {

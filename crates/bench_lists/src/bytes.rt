@@ -1,12 +1,11 @@
 // Bytes, as pairs of hexadecimal digits, or `-` for none.
-use crate::numbers::hex_value;
-use crate::problems::Problem;
-use crate::words::ends_line;
-use crate::words::ends_word;
-use crate::words::skip_spaces;
 use bench_io::Streams;
 use bench_io::advance;
-ghost use Prim.Native.Nat.{_≤_};
+use bench_words::Problem;
+use bench_words::ends_line;
+use bench_words::ends_word;
+use bench_words::hex_value;
+use bench_words::skip_spaces;
 
 // Bytes that were read: how many there are in the lent buffer, or what is wrong.
 pub enum Taken {

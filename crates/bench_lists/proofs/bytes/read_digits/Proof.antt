@@ -1,7 +1,7 @@
 use Prim.Native.Nat.{_-_}
 use borrow.Author.Needs.{needs}
-use Rattle.bench_words.proofs.bytes.read_digits.Statement.{statement}
-use Rattle.bench_words.proofs.bytes.read_digits.Tie as tie
+use Rattle.bench_lists.proofs.bytes.read_digits.Statement.{statement}
+use Rattle.bench_lists.proofs.bytes.read_digits.Tie as tie
 
 abbrev Inv-loop : tie.InvT-loop
 Inv-loop input₀ output bytes₀ here₀ n₀ input bytes here n = Unit {0}

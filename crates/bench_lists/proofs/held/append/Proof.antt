@@ -1,7 +1,7 @@
 use Prim.Native.Nat.{_-_}
 use borrow.Author.Needs.{needs}
-use Rattle.bench_words.proofs.held.append.Statement.{statement}
-use Rattle.bench_words.proofs.held.append.Tie as tie
+use Rattle.bench_lists.proofs.held.append.Statement.{statement}
+use Rattle.bench_lists.proofs.held.append.Tie as tie
 
 abbrev Inv-loop : tie.InvT-loop
 Inv-loop codes₀ before row n i₀ codes i = Unit {0}

@@ -5,16 +5,15 @@ use crate::bytes::read_bytes;
 use crate::held::Items;
 use crate::held::ReadItems;
 use crate::held::read_items;
-use crate::numbers::Got;
-use crate::numbers::Place;
-use crate::numbers::ReadNumber;
-use crate::numbers::read_number;
-use crate::problems::Problem;
-use crate::words::ReadWord;
-use crate::words::ends_line;
-use crate::words::read_word;
-use crate::words::skip_spaces;
 use bench_io::Streams;
+use bench_words::Got;
+use bench_words::Place;
+use bench_words::Problem;
+use bench_words::ReadNumber;
+use bench_words::ends_line;
+use bench_words::read_number;
+use bench_words::read_word;
+use bench_words::skip_spaces;
 
 // A word that was read as text: its length, or what is wrong.
 pub enum Text {
