@@ -1,6 +1,8 @@
 //! Writes a case file: records of questions with their answers, and counts them.
 
 use crate::layout::{self, END, FILE_HEAD, LONGEST_RECORD, MAGIC, RECORD_HEAD, answer_bytes, routine_of};
+use crate::small;
+use crate::tables::LARGE_LENGTHS;
 use crate::tally::Tally;
 use std::fs::File;
 use std::io::{BufWriter, Result, Write};
@@ -108,10 +110,12 @@ pub struct Cases {
     out: BufWriter<File>,
     records: u64,
     questions: u64,
+    is_small: bool,
     pub tally: Tally,
 }
 
 impl Cases {
+    /// `cases` is what the head says; 0 of the small list.
     pub fn create(path: &str, fused: bool, cases: u64, seed: u64) -> Result<Cases> {
         let mut head = Vec::with_capacity(FILE_HEAD);
         head.extend(MAGIC);
@@ -120,7 +124,21 @@ impl Cases {
         head.extend(seed.to_le_bytes());
         let mut out = BufWriter::with_capacity(1 << 20, File::create(path)?);
         out.write_all(&head)?;
-        Ok(Cases { out, records: 0, questions: 0, tally: Tally::default() })
+        Ok(Cases { out, records: 0, questions: 0, is_small: cases == 0, tally: Tally::default() })
+    }
+
+    pub fn is_small(&self) -> bool {
+        self.is_small
+    }
+
+    /// The lengths of long tables that a routine is asked about in turn.
+    pub fn large_lengths(&self, routine: u32) -> &'static [usize] {
+        if self.is_small { small::large_lengths(routine) } else { &LARGE_LENGTHS }
+    }
+
+    /// Whether a routine is asked about a table of one entry too many.
+    pub fn asks_too_long(&self, routine: u32) -> bool {
+        !self.is_small || small::asks_too_long(routine)
     }
 
     /// Answers of this routine so far.

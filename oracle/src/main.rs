@@ -12,6 +12,7 @@ mod read;
 mod routines;
 mod rules;
 mod show;
+mod small;
 mod tables;
 mod tally;
 
@@ -20,6 +21,7 @@ use std::process::ExitCode;
 
 const USAGE: &str = "\
 oracle CASES SEED OUTFILE         write about CASES answers
+oracle --small SEED OUTFILE       write a small list, with few long tables
 oracle --show FILE N [ROUTINE]    print the first N records, of all or of the routine with this number
 oracle --count FILE               count a file's answers by routine
 oracle --differences PLAIN FUSED  where two files of the same questions differ
@@ -46,7 +48,14 @@ fn run(words: &[&str]) -> Result<bool, String> {
         ["--count", file] => show::count(file)?,
         ["--differences", plain, fused] => differences::differences(plain, fused)?,
         ["--known"] => return Ok(known::known()),
-        [cases, seed, file] => write(number(cases)?, number(seed)?, file)?,
+        ["--small", seed, file] => write(0, small::ANSWERS, number(seed)?, file)?,
+        [cases, seed, file] => {
+            let cases = number(cases)?;
+            if cases == 0 {
+                return Err("CASES is at least 1".into());
+            }
+            write(cases, cases, number(seed)?, file)?
+        }
         _ => return Err(format!("usage:\n{USAGE}")),
     }
     Ok(true)
@@ -56,10 +65,11 @@ fn number(word: &str) -> Result<u64, String> {
     word.parse().map_err(|_| format!("{word} is not a number"))
 }
 
-fn write(cases: u64, seed: u64, path: &str) -> Result<(), String> {
+/// Writes about this many answers. `said` is what the file's head says of them.
+fn write(said: u64, answers: u64, seed: u64, path: &str) -> Result<(), String> {
     let trouble = |error: std::io::Error| format!("{path}: {error}");
-    let mut file = Cases::create(path, cfg!(fused), cases, seed).map_err(trouble)?;
-    routines::write_all(&mut file, cases, seed);
+    let mut file = Cases::create(path, cfg!(fused), said, seed).map_err(trouble)?;
+    routines::write_all(&mut file, answers, seed);
     file.finish().map_err(trouble)?.print();
     Ok(())
 }

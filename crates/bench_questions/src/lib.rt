@@ -20,8 +20,8 @@ use bench_words::put_problem;
 use bench_words::raw;
 use bench_words::short;
 use bench_words::skip_spaces;
+use gamma::Coded;
 use interp::Interpolated;
-use lookup::Coded;
 use table::Density;
 use table::Done;
 use table::Drive;
@@ -105,7 +105,7 @@ fn put_answer(
         Question::Gamma(inputs, depth) => put_coded(
             s,
             output,
-            lookup::lut_interp_linear_gamma_impl(table, inputs, depth, value as usize),
+            gamma::lut_interp_linear_gamma_impl(table, inputs, depth, value as usize),
         ),
         Question::Linear => put_interpolated(
             s,

@@ -171,9 +171,9 @@ pub fn nudge(
 
 fn inverted(table: &[u16], out: &mut [u16], m: usize) -> Done {
     if m < out.len() {
-        return inverse::invert_lut(table, &mut out[0..m]);
+        return invert::invert_lut(table, &mut out[0..m]);
     }
-    inverse::invert_lut(table, out)
+    invert::invert_lut(table, out)
 }
 
 fn put_inverted(

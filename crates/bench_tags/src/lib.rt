@@ -233,9 +233,9 @@ fn curv_length(n: usize) -> usize {
 
 fn write_into(table: &[u16], tag: &mut [u8], n: usize) -> Done {
     if n < tag.len() {
-        return curv::write_curv(table, &mut tag[0..n]);
+        return curv_writer::write_curv(table, &mut tag[0..n]);
     }
-    curv::write_curv(table, tag)
+    curv_writer::write_curv(table, tag)
 }
 
 // `write`.
@@ -314,9 +314,9 @@ fn para_length(t: usize) -> usize {
 
 fn write_para_into(t: usize, numbers: Numbers, tag: &mut [u8], n: usize) -> Done {
     if n < tag.len() {
-        return para::write_para(t, numbers, &mut tag[0..n]);
+        return para_writer::write_para(t, numbers, &mut tag[0..n]);
     }
-    para::write_para(t, numbers, tag)
+    para_writer::write_para(t, numbers, tag)
 }
 
 // The seven numbers of a list's codes.

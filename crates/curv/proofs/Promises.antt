@@ -1,22 +1,22 @@
 -- How each promise is met, case by case; what an answer that keeps it tells; and that it names one answer and one later state. Assumes nothing.
 use mathlib.Core.Path.{_≡_, _∙_, refl, sym, ap}
 use mathlib.Core.List.{List, []}
-use Prim.Native.Nat.{ℕ, _+_, _*_, _<_, _≤_}
+use Prim.Native.Nat.{ℕ, _+_, _*_, _≤_}
 use native.Mathlib.Omega.{arith}
-use borrow.Author.Tests.{le-leb, lt-leb, eq-eqb, ne-eqb, leb-true, eqb-true}
+use borrow.Author.Tests.{eq-eqb, ne-eqb, eqb-true}
 use denote.Ref.{RefT, now}
 use lib.ListN.{length}
 use Rattle.table.specs.Refusals.{Verdict, granted, refused, numberIn, ifGranted}
 use Rattle.table.specs.Fill.{tabulated}
 use Rattle.table.specs.declared.Done.{Done}
 use Rattle.table.specs.declared.Refusal.{Refusal}
-use Rattle.table.specs.declared.Refusal.the-variants.{TableLength, OutputLength}
+use Rattle.table.specs.declared.Refusal.the-variants.{OutputLength}
 use Rattle.table.proofs.Refusals.{same-refusal, number-above, same-verdict, rung-granted}
 use Rattle.table.proofs.Answers.{same-done}
 use Rattle.curv.specs.declared.Counted.{Counted}
 use Rattle.curv.specs.Answers.{numberOfCounted, valueOfCounted}
-use Rattle.curv.specs.Tag.{countOf, entryAt, entriesOf, partOf, tagOf, tagLength}
-use Rattle.curv.specs.Promises.{tagVerdict, andThen, CountPromise, readVerdict, ReadPromise, past, PartPromise, writeVerdict, WritePromise}
+use Rattle.curv.specs.Tag.{countOf, entryAt, entriesOf, partOf}
+use Rattle.curv.specs.Promises.{tagVerdict, andThen, CountPromise, readVerdict, ReadPromise, past, PartPromise}
 use Rattle.curv.proofs.Checks.{readable, total-room}
 
 -- a verdict's number and what it gives, both from the verdict itself
@@ -96,28 +96,6 @@ granted-part {tag} e p = (
   p .place ∙ sym (verdict-gives (past 12 (tag .ptr)) (tag .ptr) e),
 )
 
--- Writing.
-module _ (t out : List ℕ) where
-  write-refusal : (why : Refusal) → writeVerdict t out ≡ refused why → WritePromise t out (Done.Refused why) out
-  write-refusal why e = record { number = verdict-number e; after = verdict-gives (tagOf t) out e }
-
-  pub write-many : 65536 < length t → WritePromise t out (Done.Refused TableLength) out
-  write-many h = write-refusal TableLength (rw (lt-leb _ _ h) refl)
-
-  pub write-misfit : length t ≤ 65536 → (length out ≡ tagLength (length t) → ⊥) → WritePromise t out (Done.Refused OutputLength) out
-  write-misfit h n = write-refusal OutputLength (rw (le-leb _ _ h, ne-eqb _ _ n) refl)
-
-  pub write-granted : (out′ : List ℕ) → length t ≤ 65536 → length out ≡ tagLength (length t) → out′ ≡ tagOf t → WritePromise t out Done.Yes out′
-  write-granted out′ h n f =
-      let g : writeVerdict t out ≡ granted = rw (le-leb _ _ h, eq-eqb _ _ n) refl in
-      record { number = verdict-number g; after = f ∙ verdict-gives (tagOf t) out g }
-
-  pub granted-write : {out′ : List ℕ} → WritePromise t out Done.Yes out′ → (length t ≤ 65536) × (length out ≡ tagLength (length t)) × (out′ ≡ tagOf t)
-  granted-write p =
-      let g : writeVerdict t out ≡ granted = sym (same-verdict granted (writeVerdict t out) (p .number)) in
-      let v = rung-granted _ _ _ g in
-      (leb-true _ _ (v .0), eqb-true _ _ (rung-granted _ _ _ (v .1) .0), p .after ∙ verdict-gives (tagOf t) out (sym g))
-
 -- A promise names one answer and one later state.
 same-counted : (r s : Counted) → numberOfCounted r ≡ numberOfCounted s → valueOfCounted r ≡ valueOfCounted s → r ≡ s
 same-counted (Counted.Entries m) (Counted.Entries n) e v = ap Counted.Entries v
@@ -134,6 +112,3 @@ read-one {r = r} {s = s} p q = (same-done r s (p .number ∙ sym (q .number)), p
 pub part-one : {tag part other : RefT (List ℕ)} {why′ why″ : ℕ} → PartPromise tag part why′ → PartPromise tag other why″
     → (why′ ≡ why″) × (now part ≡ now other) × (part .ptr ≡ other .ptr)
 part-one p q = (p .number ∙ sym (q .number), p .bytes ∙ sym (q .bytes), p .place ∙ sym (q .place))
-
-pub write-one : {t out out′ out″ : List ℕ} {r s : Done} → WritePromise t out r out′ → WritePromise t out s out″ → (r ≡ s) × (out′ ≡ out″)
-write-one {r = r} {s = s} p q = (same-done r s (p .number ∙ sym (q .number)), p .after ∙ sym (q .after))

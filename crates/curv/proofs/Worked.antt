@@ -1,21 +1,16 @@
--- Worked examples, by computation: tags of no, one and two entries, a part, a tag written, and each refusal, with the order of the refusals. Assumes nothing.
+-- Worked examples, by computation: tags of no, one and two entries, a part, and each refusal, with the order of the refusals. Assumes nothing.
 use mathlib.Core.Path.{refl}
 use mathlib.Core.List.{List, [], _∷_}
-use Prim.Native.Nat.{ℕ, _<_}
-use native.Mathlib.Omega.{arith}
+use Prim.Native.Nat.{ℕ}
 use base.Fml.{GName}
-use lib.ListN.{length, replicate}
 use Rattle.table.specs.Fill.{tabulated}
 use Rattle.table.specs.declared.Done.{Done}
 use Rattle.table.specs.declared.Refusal.the-variants.{TableLength, OutputLength, TagLength, WrongSignature, ReservedNotZero}
-use Rattle.icc.specs.Bytes.{be16, be32, bytes16, bytes32}
+use Rattle.icc.specs.Bytes.{be16, be32}
 use Rattle.icc.specs.Opening.{stands}
 use Rattle.curv.specs.declared.Counted.{Counted}
-use Rattle.curv.specs.Tag.{entryAt, total, head, bytesOf, tagOf}
-use Rattle.curv.specs.Promises.{tagVerdict, CountPromise, ReadPromise, past, PartPromise, WritePromise}
-use Rattle.curv.proofs.Checks.{many}
-use Rattle.curv.proofs.Promises.{count-refused, write-many}
-use Rattle.curv.proofs.Written.{length-tag, tag-signed, tag-zeros, tag-count}
+use Rattle.curv.specs.Tag.{entryAt, total}
+use Rattle.curv.specs.Promises.{tagVerdict, CountPromise, ReadPromise, past, PartPromise}
 
 -- the first eight bytes of a curv tag, and three whole ones
 abbrev begun : List ℕ → List ℕ
@@ -31,17 +26,17 @@ abbrev two : List ℕ
 two = begun (0 ∷ 0 ∷ 0 ∷ 2 ∷ 18 ∷ 52 ∷ 255 ∷ 254 ∷ [])
 
 -- Counted and read.
-ncount-oneed : CountPromise none (Counted.Entries 0)
+none-counted : CountPromise none (Counted.Entries 0)
 unfolding tagVerdict stands total be32
-ncount-oneed = record { number = refl; value = refl }
+none-counted = record { number = refl; value = refl }
 
-nread-one : ReadPromise none [] Done.Yes []
+none-read : ReadPromise none [] Done.Yes []
 unfolding tagVerdict stands total be32 tabulated
-nread-one = record { number = refl; after = refl }
+none-read = record { number = refl; after = refl }
 
-read-one : ReadPromise one (7 ∷ []) Done.Yes (563 ∷ [])
+one-read : ReadPromise one (7 ∷ []) Done.Yes (563 ∷ [])
 unfolding tagVerdict stands total be16 be32 entryAt tabulated
-read-one = record { number = refl; after = refl }
+one-read = record { number = refl; after = refl }
 
 two-counted : CountPromise two (Counted.Entries 2)
 unfolding tagVerdict stands total be32
@@ -57,22 +52,13 @@ module _ (at : ℕ × ℕ) (g h : GName) where
   unfolding tagVerdict stands total be32
   two-part = record { number = refl; bytes = refl; place = refl }
 
-  npart-one : PartPromise (record { ptr = at; name = g; now = none }) (record { ptr = past 12 at; name = h; now = [] }) 0
+  none-part : PartPromise (record { ptr = at; name = g; now = none }) (record { ptr = past 12 at; name = h; now = [] }) 0
   unfolding tagVerdict stands total be32
-  npart-one = record { number = refl; bytes = refl; place = refl }
+  none-part = record { number = refl; bytes = refl; place = refl }
 
   refused-part : PartPromise (record { ptr = at; name = g; now = [] }) (record { ptr = at; name = h; now = [] }) 8
   unfolding tagVerdict
   refused-part = record { number = refl; bytes = refl; place = refl }
-
--- Written.
-two-written : WritePromise (4660 ∷ 65534 ∷ []) (replicate 16 7) Done.Yes two
-unfolding head bytesOf bytes16 bytes32
-two-written = record { number = refl; after = refl }
-
-none-written : WritePromise [] (replicate 12 7) Done.Yes none
-unfolding head bytesOf bytes32
-none-written = record { number = refl; after = refl }
 
 -- Each refusal of a read; the buffer stays as it was lent.
 short : ReadPromise (0x63 ∷ 0x75 ∷ 0x72 ∷ 0x76 ∷ 0 ∷ 0 ∷ 0 ∷ 0 ∷ 0 ∷ 0 ∷ 0 ∷ []) (7 ∷ []) (Done.Refused TagLength) (7 ∷ [])
@@ -100,15 +86,3 @@ too-long = record { number = refl; after = refl }
 misfit : ReadPromise two (7 ∷ []) (Done.Refused OutputLength) (7 ∷ [])
 unfolding tagVerdict stands total be32
 misfit = record { number = refl; after = refl }
-
--- Above 65,536 entries no total helps, and no table is written.
-many-counted : (t : List ℕ) → 65536 < length t → CountPromise (tagOf t) (Counted.Refused TableLength)
-many-counted t h =
-    count-refused (tagOf t) TableLength
-    (many (tagOf t) (omega (arith, length-tag t)) (tag-signed t) (tag-zeros t) (omega (arith, tag-count t)))
-
-many-written : (t out : List ℕ) → 65536 < length t → WritePromise t out (Done.Refused TableLength) out
-many-written t out h = write-many t out h
-
-misfit-written : WritePromise (4660 ∷ []) (7 ∷ []) (Done.Refused OutputLength) (7 ∷ [])
-misfit-written = record { number = refl; after = refl }

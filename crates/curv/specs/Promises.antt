@@ -13,7 +13,7 @@ use Rattle.table.specs.declared.Refusal.the-variants.{TableLength, OutputLength
 use Rattle.icc.specs.Opening.{reservedZero}
 use Rattle.curv.specs.declared.Counted.{Counted}
 use Rattle.curv.specs.Answers.{numberOfCounted, valueOfCounted}
-use Rattle.curv.specs.Tag.{isCurv, countOf, entriesOf, partOf, total, tagOf, tagLength}
+use Rattle.curv.specs.Tag.{isCurv, countOf, entriesOf, partOf, total}
 
 -- The tag's own checks, which every call that reads a tag makes: fewer than 12 bytes, 8; a wrong signature, 9; a reserved byte that is not zero, 10;
 -- a count above 65,536, 1, whatever the total is; a wrong total, 8.
@@ -54,14 +54,3 @@ pub record PartPromise (tag part : RefT (List ℕ)) (why′ : ℕ) : Type 0 wher
   pub number : why′ ≡ numberIn (tagVerdict (now tag))
   pub bytes : now part ≡ ifGranted (tagVerdict (now tag)) (partOf (now tag)) []
   pub place : part .ptr ≡ ifGranted (tagVerdict (now tag)) (past 12 (tag .ptr)) (tag .ptr)
-
--- Writing a table as a tag: refused for a table above 65,536 entries, 1; for a buffer of other than 12 + 2n bytes, 6.
-abbrev pub writeVerdict : List ℕ → List ℕ → Verdict
-writeVerdict t out =
-    rung (leb (length t) 65536) TableLength
-    (rung (eqb (length out) (tagLength (length t))) OutputLength
-    granted)
-
-pub record WritePromise (t out : List ℕ) (r : Done) (out′ : List ℕ) : Type 0 where
-  pub number : numberOfDone r ≡ numberIn (writeVerdict t out)
-  pub after : out′ ≡ ifGranted (writeVerdict t out) (tagOf t) out

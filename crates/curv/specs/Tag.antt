@@ -1,12 +1,12 @@
 -- The curv tag of ICC.1, byte by byte: 63 75 72 76, four zero bytes, a 32-bit count n, n 16-bit entries. Assumes nothing.
 use Prim.Native.Nat.{ℕ, _+_, _*_}
 use mathlib.Core.Bool.{Bool}
-use mathlib.Core.List.{List, [], _∷_, _++_}
-use lib.ListN.{length, take, drop}
+use mathlib.Core.List.{List}
+use lib.ListN.{take, drop}
 use lib.Dec.{eqb}
 use Rattle.table.specs.Fill.{tabulated}
-use Rattle.icc.specs.Bytes.{be16, be32, bytes16, bytes32}
-use Rattle.icc.specs.Opening.{signedBy, opening}
+use Rattle.icc.specs.Bytes.{be16, be32}
+use Rattle.icc.specs.Opening.{signedBy}
 
 -- the signature
 abbrev pub isCurv : List ℕ → Bool
@@ -33,14 +33,3 @@ tagLength n = 12 + 2 * n
 -- which totals a tag of n entries may have: exactly that
 unfoldable pub total : ℕ → ℕ → Bool
 total n len = eqb len (tagLength n)
-
--- What is written for a table: the first twelve bytes, and each entry's two.
-unfoldable pub head : ℕ → List ℕ
-head n = opening 0x63 0x75 0x72 0x76 ++ bytes32 n
-
-unfoldable pub bytesOf : List ℕ → List ℕ
-bytesOf [] = []
-bytesOf (x ∷ t) = bytes16 x ++ bytesOf t
-
-abbrev pub tagOf : List ℕ → List ℕ
-tagOf t = head (length t) ++ bytesOf t

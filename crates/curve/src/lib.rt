@@ -40,7 +40,7 @@ pub fn start(table: &mut [u16]) -> Done
     Done::Yes
 }
 
-// Whether the table, from wherever it came, may be nudged and read backwards.
+// Whether the table, from wherever it came, may be nudged and read backwards. It is lent to be read, so what it holds after is what it held.
 pub fn accept(table: &[u16]) -> Done
     ensures { λ r. ⌜ AcceptPromise (sittingOn (now (table .entry))) r (sittingOn (now (table .entry))) ⌝ }
 {

@@ -11,7 +11,7 @@ ghost use Rattle.house.specs.Promises.{EntryPromise, FillPromise};
 
 mod curve;
 
-// Entry i. Whoever wants many fills a buffer, which costs no more than one of these.
+// Entry i. The constant table is made anew at each call, so whoever wants many fills a buffer.
 pub fn entry(i: usize) -> Looked
     ensures { λ r. ⌜ EntryPromise i r ⌝ }
 {

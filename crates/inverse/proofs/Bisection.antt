@@ -9,8 +9,8 @@ use native.Mathlib.Omega.{arith}
 use borrow.Author.Tests.{lt-ltb, le-ltb, eq-eqb, ne-eqb}
 use Rattle.table.proofs.Choice.{below?}
 use Rattle.lookup.specs.Lookup.{lookedUp}
-use Rattle.inverse.specs.declared.Found.{Found}
-use Rattle.inverse.specs.declared.Found.the-variants.{Hit, Missed}
+use Rattle.inverse.specs.declared.inside.Found.{Found}
+use Rattle.inverse.specs.declared.inside.Found.the-variants.{Hit, Missed}
 use Rattle.inverse.specs.Inside.{Ready}
 use Rattle.inverse.specs.Inverse.{search, searched}
 

@@ -1,33 +1,27 @@
--- Each promise names one answer and one later state of its buffer, refused calls too; and what a promise tells whoever knows the table's length.
+-- The promise names one answer, refused calls too; and what it tells whoever knows the table's length.
 -- Assumes nothing.
 use mathlib.Core.Path.{_≡_, _∙_, sym, ap}
 use mathlib.Core.Bool.{true, false}
 use mathlib.Core.List.{List}
-use Prim.Native.Nat.{ℕ, _<_}
-use lib.ListN.{length, getD}
+use Prim.Native.Nat.{ℕ}
+use lib.ListN.{length}
 use Rattle.table.specs.Sizes.{sized}
 use Rattle.table.specs.declared.Density.{Density}
 use Rattle.table.specs.declared.Drive.{Drive}
 use Rattle.table.specs.declared.Looked.{Looked}
-use Rattle.table.specs.declared.Done.{Done}
 use Rattle.table.specs.declared.Sought.{Sought}
 use Rattle.table.specs.declared.Refusal.the-variants.{TableLength}
-use Rattle.table.proofs.Answers.{same-done, same-sought}
-use Rattle.table.proofs.Fill.{getD-tabulated}
+use Rattle.table.proofs.Answers.{same-sought}
 use Rattle.lookup.specs.Lookup.{lookedUp}
 use Rattle.lookup.specs.Promises.{LookupPromise}
 use Rattle.lookup.proofs.Promises.{lookup-granted}
-use Rattle.inverse.specs.declared.Found.the-variants.{Hit}
+use Rattle.inverse.specs.declared.inside.Found.the-variants.{Hit}
 use Rattle.inverse.specs.Inverse.{leadingZeros, trailingTops, zeroAtOnce, searched, leftOf, rightOf, inverted}
-use Rattle.inverse.specs.Invert.{asked, invertedAt, invertedOf}
-use Rattle.inverse.specs.Promises.{InversePromise, InvertPromise}
+use Rattle.inverse.specs.Promises.{InversePromise}
 use Rattle.inverse.proofs.Whole.{hit-looks-up}
 
 pub inverse-one : {t : List ℕ} {v : Density} {r s : Sought} → InversePromise t v r → InversePromise t v s → r ≡ s
 inverse-one {t} {v} {r} {s} a b = same-sought r s (a .number ∙ sym (b .number)) (a .value ∙ sym (b .value))
-
-pub invert-one : {t out out′ out″ : List ℕ} {r s : Done} → InvertPromise t out r out′ → InvertPromise t out s out″ → (r ≡ s) × (out′ ≡ out″)
-invert-one {r = r} {s = s} a b = (same-done r s (a .number ∙ sym (b .number)), a .after ∙ sym (b .after))
 
 -- in a table of 1 to 65,536 entries every value has an answer, and any other table is refused
 pub inverse-granted : {t : List ℕ} {v : Density} {r : Sought} → sized (length t) ≡ true → InversePromise t v r → r ≡ Sought.At (record { 0 = inverted t (v .0) })
@@ -42,7 +36,3 @@ pub hit-back : {t : List ℕ} {v : Density} {p : Drive} {s : Looked} → sized (
 hit-back {t} {v} {p} {s} h e q f a b =
     let there : p .0 ≡ inverted t (v .0) = a .value ∙ simp h in
     lookup-granted h b ∙ ap (λ (n : ℕ). Looked.At (record { 0 = n })) (ap (lookedUp t) there ∙ hit-looks-up t h (v .0) q e f)
-
--- a table inverted is, entry by entry, the inverse of what that entry asks
-pub inverted-entry : (t : List ℕ) (m i : ℕ) → i < m → getD (invertedOf t m) i 0 ≡ inverted t (asked m i)
-inverted-entry t m i h = getD-tabulated (invertedAt t m) m i 0 h

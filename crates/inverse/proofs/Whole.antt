@@ -14,8 +14,8 @@ use Rattle.table.proofs.Sizes.{within-high}
 use Rattle.lookup.specs.Lookup.{lower, upper, steps, entriesOf, lookedUp}
 use Rattle.lookup.proofs.Steps.{lower-lt, upper-lt}
 use Rattle.lookup.proofs.LookupLaws.{lookup-at-most}
-use Rattle.inverse.specs.declared.Found.{Found}
-use Rattle.inverse.specs.declared.Found.the-variants.{Hit, Missed}
+use Rattle.inverse.specs.declared.inside.Found.{Found}
+use Rattle.inverse.specs.declared.inside.Found.the-variants.{Hit, Missed}
 use Rattle.inverse.specs.Inside.{Ready}
 use Rattle.inverse.specs.Tail.{tail}
 use Rattle.inverse.specs.Inverse.{leadingZeros, trailingTops, zeroAtOnce, firstLeft, firstRight, searched, settled, leftOf, rightOf, inverted}

@@ -10,7 +10,6 @@ use Rattle.rounding.specs.Cut.{floor, ceil}
 use Rattle.rounding.specs.Size.{abs}
 use Rattle.inverse.specs.Tail.{cellOf, nodeOf, rounded, between, tail}
 use Rattle.inverse.specs.Inverse.{run, leadingZeros, trailingTops, zeroAtOnce, firstLeft, firstRight, search, searched, inverted}
-use Rattle.inverse.specs.Invert.{scaleOf, asked}
 
 -- the inverse of each of a list of values
 each : List ℕ → List ℕ → List ℕ
@@ -67,8 +66,3 @@ no-room v = go (zeroAtOnce v 1 2)
 not-fused : each (0 ∷ 8286 ∷ 24858 ∷ 47388 ∷ []) (31617 ∷ []) ≡ 50244 ∷ []
 unfolding each
 not-fused = refl
-
--- a whole table's questions are f64 steps: the start ramp's entry here is 32768
-question : asked 27 13 ≡ 32767
-unfolding asked scaleOf floor ofInt round add mul div
-question = refl

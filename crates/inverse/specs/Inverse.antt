@@ -8,8 +8,8 @@ use lib.Signed.{quotZ}
 use lib.Dec.{leb, ltb, eqb}
 use Rattle.table.specs.Choice.{pick, both}
 use Rattle.lookup.specs.Lookup.{entriesOf, lookedUp}
-use Rattle.inverse.specs.declared.Found.{Found}
-use Rattle.inverse.specs.declared.Found.the-variants.{Hit, Missed}
+use Rattle.inverse.specs.declared.inside.Found.{Found}
+use Rattle.inverse.specs.declared.inside.Found.the-variants.{Hit, Missed}
 use Rattle.inverse.specs.Tail.{tail}
 
 -- how many of the n entries T 0, T 1, .. are y before one is not

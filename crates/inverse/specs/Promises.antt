@@ -1,18 +1,15 @@
--- What each call of this crate promises: when it is refused and by which number, its value, and what the lent buffer holds after it.
--- Assumes nothing.
+-- What the inverse promises: when it is refused and by which number, and its value. Assumes nothing.
 use Prim.Native.Nat.{ℕ}
 use mathlib.Core.Path.{_≡_}
 use mathlib.Core.List.{List}
 use lib.ListN.{length}
-use Rattle.table.specs.Sizes.{sized, spanned}
+use Rattle.table.specs.Sizes.{sized}
 use Rattle.table.specs.Refusals.{Verdict, granted, rung, numberIn, ifGranted}
-use Rattle.table.specs.Answers.{numberOfDone, numberOfSought, valueOfSought}
+use Rattle.table.specs.Answers.{numberOfSought, valueOfSought}
 use Rattle.table.specs.declared.Density.{Density}
-use Rattle.table.specs.declared.Done.{Done}
 use Rattle.table.specs.declared.Sought.{Sought}
-use Rattle.table.specs.declared.Refusal.the-variants.{TableLength, OutsideRange}
+use Rattle.table.specs.declared.Refusal.the-variants.{TableLength}
 use Rattle.inverse.specs.Inverse.{inverted}
-use Rattle.inverse.specs.Invert.{invertedOf}
 
 -- The inverse of one value: refused for the table's length, 1.
 abbrev pub inverseVerdict : List ℕ → Verdict
@@ -21,14 +18,3 @@ inverseVerdict t = rung (sized (length t)) TableLength granted
 pub record InversePromise (t : List ℕ) (v : Density) (r : Sought) : Type 0 where
   pub number : numberOfSought r ≡ numberIn (inverseVerdict t)
   pub value : valueOfSought r ≡ ifGranted (inverseVerdict t) (inverted t (v .0)) 0
-
--- A table inverted: refused for the table's length, 1; for an inverted length outside 2 to 65,536, 12.
-abbrev pub invertVerdict : List ℕ → List ℕ → Verdict
-invertVerdict t out =
-    rung (sized (length t)) TableLength
-    (rung (spanned (length out)) OutsideRange
-    granted)
-
-pub record InvertPromise (t out : List ℕ) (r : Done) (out′ : List ℕ) : Type 0 where
-  pub number : numberOfDone r ≡ numberIn (invertVerdict t out)
-  pub after : out′ ≡ ifGranted (invertVerdict t out) (invertedOf t (length out)) out

@@ -1,8 +1,7 @@
--- `Sum`: the laws that both lookups share, over the divisor. `LookupLaws` and `GammaLaws`: what follows for each. `Promises`: each promise names one answer.
+-- `Sum`: the laws that both lookups share, over the divisor. `LookupLaws`: what follows for the 16-bit one. `Promises`: each promise names one answer.
 -- `Weigh` and `Steps`: the arithmetic under them.
 pub mod Weigh
 pub mod Steps
 pub mod Sum
 pub mod LookupLaws
-pub mod GammaLaws
 pub mod Promises

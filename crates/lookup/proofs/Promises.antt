@@ -1,34 +1,22 @@
 -- Each promise names one answer and one later state of its buffer, refused calls too; and what a promise tells whoever knows the table's length.
 -- Assumes nothing.
-use mathlib.Core.Path.{_≡_, _∙_, sym, ap}
+use mathlib.Core.Path.{_≡_, _∙_, sym}
 use mathlib.Core.Bool.{true, false}
 use mathlib.Core.List.{List}
 use Prim.Native.Nat.{ℕ, _<_}
-use native.Mathlib.Omega.{arith}
 use lib.ListN.{length, getD}
 use Rattle.table.specs.Sizes.{sized}
 use Rattle.table.specs.declared.Drive.{Drive}
 use Rattle.table.specs.declared.Done.{Done}
 use Rattle.table.specs.declared.Looked.{Looked}
 use Rattle.table.specs.declared.Refusal.the-variants.{TableLength}
-use Rattle.table.proofs.Refusals.{same-refusal, number-above}
 use Rattle.table.proofs.Answers.{same-done, same-looked}
 use Rattle.table.proofs.Fill.{getD-tabulated}
-use Rattle.lookup.specs.declared.Coded.{Coded}
 use Rattle.lookup.specs.Lookup.{lookedUp, rowAt, rowOf, bakedOf}
-use Rattle.lookup.specs.Promises.{LookupPromise, numberOfCoded, valueOfCoded, GammaPromise, RowPromise, BakePromise}
+use Rattle.lookup.specs.Promises.{LookupPromise, RowPromise, BakePromise}
 
 pub lookup-one : {t : List ℕ} {p : Drive} {r s : Looked} → LookupPromise t p r → LookupPromise t p s → r ≡ s
 lookup-one {t} {p} {r} {s} a b = same-looked r s (a .number ∙ sym (b .number)) (a .value ∙ sym (b .value))
-
-same-coded : (r s : Coded) → numberOfCoded r ≡ numberOfCoded s → valueOfCoded r ≡ valueOfCoded s → r ≡ s
-same-coded (Coded.Value a) (Coded.Value b) e v = ap Coded.Value v
-same-coded (Coded.Value a) (Coded.Refused b) e v = absurd (omega (arith, number-above b))
-same-coded (Coded.Refused a) (Coded.Value b) e v = absurd (omega (arith, number-above a))
-same-coded (Coded.Refused a) (Coded.Refused b) e v = ap Coded.Refused (same-refusal a b e)
-
-pub gamma-one : {t : List ℕ} {N depth x : ℕ} {r s : Coded} → GammaPromise t N depth x r → GammaPromise t N depth x s → r ≡ s
-gamma-one {t} {N} {depth} {x} {r} {s} a b = same-coded r s (a .number ∙ sym (b .number)) (a .value ∙ sym (b .value))
 
 pub row-one : {t positions out out′ out″ : List ℕ} {r s : Done} → RowPromise t positions out r out′ → RowPromise t positions out s out″ → (r ≡ s) × (out′ ≡ out″)
 row-one {r = r} {s = s} a b = (same-done r s (a .number ∙ sym (b .number)), a .after ∙ sym (b .after))

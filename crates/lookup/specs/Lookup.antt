@@ -1,7 +1,7 @@
--- The lookups of document 01. A position or an input is v steps into the entries (document 01's V), cap steps from each to the next: the 16-bit lookup
--- has 65535 for cap, the gamma lookup N - 1. The entries are a function T of the index beside their number n, so that a table is one source of them
--- and others can share this. Assumes nothing.
-use Prim.Native.Nat.{ℕ, _+_, _-_, _*_, _/_, _%_, _^_}
+-- The 16-bit lookup of document 01, and what the gamma lookup shares with it. A position or an input is v steps into the entries (document 01's V),
+-- cap steps from each to the next: the 16-bit lookup has 65535 for cap, the gamma lookup N - 1. The entries are a function T of the index beside
+-- their number n, so that a table is one source of them and others can share this. Assumes nothing.
+use Prim.Native.Nat.{ℕ, _+_, _-_, _*_, _/_, _%_}
 use mathlib.Core.List.{List}
 use lib.ListN.{length, getD}
 use lib.Dec.{ltb}
@@ -32,14 +32,6 @@ steps n p = p * (n - 1)
 unfoldable pub lookup16 : (ℕ → ℕ) → ℕ → ℕ → ℕ
 lookup16 T n p = weighted 65535 T (steps n p) / 65535
 
--- D = floor(cap·65535/(2^depth - 1)), cap = N - 1
-unfoldable pub gammaUnit : ℕ → ℕ → ℕ
-gammaUnit N depth = (N - 1) * 65535 / (2 ^ depth - 1)
-
--- the gamma lookup at input x: floor((S + floor(D/2))/D), S over cap = N - 1 and not divided by it
-unfoldable pub gamma : ℕ → ℕ → (ℕ → ℕ) → ℕ → ℕ → ℕ
-gamma N depth T n x = (weighted (N - 1) T (steps n x) + gammaUnit N depth / 2) / gammaUnit N depth
-
 -- a table as a source of entries
 abbrev pub entriesOf : List ℕ → ℕ → ℕ
 entriesOf t i = getD t i 0
@@ -47,10 +39,6 @@ entriesOf t i = getD t i 0
 -- the 16-bit lookup in a table
 abbrev pub lookedUp : List ℕ → ℕ → ℕ
 lookedUp t p = lookup16 (entriesOf t) (length t) p
-
--- the gamma lookup in a table
-abbrev pub gammaUp : List ℕ → ℕ → ℕ → ℕ → ℕ
-gammaUp t N depth x = gamma N depth (entriesOf t) (length t) x
 
 -- the 16-bit lookup at each of a row of positions
 abbrev pub rowAt : List ℕ → List ℕ → ℕ → ℕ

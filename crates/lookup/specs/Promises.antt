@@ -4,16 +4,15 @@ use Prim.Native.Nat.{ℕ}
 use mathlib.Core.Path.{_≡_}
 use mathlib.Core.List.{List}
 use lib.ListN.{length}
-use lib.Dec.{ltb, eqb}
-use Rattle.table.specs.Sizes.{within, sized, spanned}
-use Rattle.table.specs.Refusals.{numberOf, Verdict, granted, rung, numberIn, ifGranted}
+use lib.Dec.{eqb}
+use Rattle.table.specs.Sizes.{sized}
+use Rattle.table.specs.Refusals.{Verdict, granted, rung, numberIn, ifGranted}
 use Rattle.table.specs.Answers.{numberOfDone, numberOfLooked, valueOfLooked}
 use Rattle.table.specs.declared.Drive.{Drive}
 use Rattle.table.specs.declared.Done.{Done}
 use Rattle.table.specs.declared.Looked.{Looked}
-use Rattle.table.specs.declared.Refusal.the-variants.{TableLength, IndexBeyond, OutputLength, OutsideRange}
-use Rattle.lookup.specs.declared.Coded.{Coded}
-use Rattle.lookup.specs.Lookup.{lookedUp, gammaUp, rowOf, bakedOf}
+use Rattle.table.specs.declared.Refusal.the-variants.{TableLength, OutputLength}
+use Rattle.lookup.specs.Lookup.{lookedUp, rowOf, bakedOf}
 
 -- The 16-bit lookup: refused for the table's length, 1.
 abbrev pub lookupVerdict : List ℕ → Verdict
@@ -22,28 +21,6 @@ lookupVerdict t = rung (sized (length t)) TableLength granted
 pub record LookupPromise (t : List ℕ) (p : Drive) (r : Looked) : Type 0 where
   pub number : numberOfLooked r ≡ numberIn (lookupVerdict t)
   pub value : valueOfLooked r ≡ ifGranted (lookupVerdict t) (lookedUp t (p .0)) 0
-
--- Document 01's number and value for each case of the gamma lookup's answer.
-abbrev pub numberOfCoded : Coded → ℕ
-numberOfCoded (Coded.Value c) = 0
-numberOfCoded (Coded.Refused why) = numberOf why
-
-abbrev pub valueOfCoded : Coded → ℕ
-valueOfCoded (Coded.Value c) = c
-valueOfCoded (Coded.Refused why) = 0
-
--- The gamma lookup: refused for the table's length, 1; for N outside 2 to 65,536 or a depth outside 1 to 16, 12; for an input at or above N, 3.
-abbrev pub gammaVerdict : List ℕ → ℕ → ℕ → ℕ → Verdict
-gammaVerdict t N depth x =
-    rung (sized (length t)) TableLength
-    (rung (spanned N) OutsideRange
-    (rung (within 1 16 depth) OutsideRange
-    (rung (ltb x N) IndexBeyond
-    granted)))
-
-pub record GammaPromise (t : List ℕ) (N depth x : ℕ) (r : Coded) : Type 0 where
-  pub number : numberOfCoded r ≡ numberIn (gammaVerdict t N depth x)
-  pub value : valueOfCoded r ≡ ifGranted (gammaVerdict t N depth x) (gammaUp t N depth x) 0
 
 -- A row of lookups: refused for the table's length, 1; for an output that is not exactly as long as the positions, 6.
 -- Each entry of the output is the 16-bit lookup at its position.

@@ -3,7 +3,8 @@ use mathlib.Core.Path.{refl}
 use lib.Ieee.{ofInt, round, neg, add, sub, mul, div, lt, le}
 use Rattle.table.specs.Sizes.{within}
 use Rattle.table.specs.Fill.{tabulated}
-use Rattle.lookup.specs.Lookup.{weighted, lookup16, gammaUnit, gamma}
+use Rattle.lookup.specs.Lookup.{weighted, lookup16}
+use Rattle.gamma.specs.Gamma.{gammaUnit, gamma}
 use Rattle.curve.specs.Ramp.{ramp}
 use Rattle.least.specs.Least.{first, leastOf}
 use Rattle.rounding.specs.Cut.{floor, ceil}

@@ -8,8 +8,9 @@ use Rattle.table.specs.declared.Done.{Done}
 use Rattle.table.specs.declared.Looked.{Looked}
 use Rattle.table.specs.declared.Sought.{Sought}
 use Rattle.table.specs.declared.Refusal.the-variants.{AboveLast}
-use Rattle.lookup.specs.declared.Coded.{Coded}
-use Rattle.lookup.specs.Promises.{LookupPromise, GammaPromise}
+use Rattle.gamma.specs.declared.Coded.{Coded}
+use Rattle.lookup.specs.Promises.{LookupPromise}
+use Rattle.gamma.specs.Promises.{GammaPromise}
 use Rattle.curve.specs.Promises.{Sitting, sittingOn, StartPromise}
 use Rattle.least.specs.Promises.{LeastPromise}
 use Rattle.inverse.specs.Promises.{InversePromise}

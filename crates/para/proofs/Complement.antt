@@ -1,18 +1,16 @@
--- Two's complement: a pattern's number and a number's pattern, each from the other, and both as the machine has them. Assumes nothing.
-use mathlib.Core.Path.{_≡_, _∙_, refl, sym, ap}
+-- Two's complement: a pattern's number, as the machine has it. Assumes nothing.
+use mathlib.Core.Path.{_≡_, _∙_, refl, ap}
 use mathlib.Core.Bool.{Bool, true, false}
-use Prim.Native.Nat.{ℕ, suc, _-_, _<_, zero-le}
-use native.Mathlib.Omega.{arith}
-use borrow.Author.Tests.{le-leb, lt-ltb}
-use lib.Dec.{T, ltb}
-use lib.IntN.{ℤ, pos, negsuc, natAbs}
-use lib.Signed.{mag, nonNeg, leZ}
+use Prim.Native.Nat.{ℕ, suc, _-_, _<_}
+use borrow.Author.Tests.{lt-ltb}
+use lib.Dec.{ltb}
+use lib.IntN.{ℤ, pos, negsuc}
+use lib.Signed.{mag}
 use mir.Syntax.{w32}
-use mir.Val.{Fits, SFits, sel, toZ, ofZ}
-use mir.ValLaws.{half-full, ofZ-fits, toZ-pos, toZ-ofZ, toZ-fits, ofZ-toZ}
+use mir.Val.{sel, toZ, ofZ}
+use mir.ValLaws.{toZ-ofZ, toZ-fits}
 use Rattle.table.specs.Choice.{pick}
-use Rattle.table.proofs.Choice.{never}
-use Rattle.para.specs.Signed.{signedOf, patternOf}
+use Rattle.para.specs.Signed.{signedOf}
 
 pick-sel : (t : Bool) (y z : ℤ) → pick t y z ≡ sel t y z
 pick-sel true y z = refl
@@ -22,24 +20,7 @@ pub signed-machine : (x : ℕ) → x < 0x1_0000_0000 → signedOf x ≡ toZ w32 
 unfolding signedOf
 signed-machine x h = rw (lt-ltb x 0x1_0000_0000 h) (pick-sel (ltb x 0x8000_0000) (pos x) (negsuc (0x1_0000_0000 - suc x)))
 
-pub pattern-machine : (z : ℤ) → patternOf z ≡ ofZ w32 z
-unfolding patternOf
-pattern-machine (pos n) = refl
-pattern-machine (negsuc n) = refl
-
--- a number that 32 bits hold is the one that its pattern stands for
-pub signed-pattern : (z : ℤ) → mag z < 0x8000_0000 → signedOf (patternOf z) ≡ z
-signed-pattern z h =
-    let fits : SFits w32 z = record { sfits = h } in
-    signed-machine (patternOf z) (rw (pattern-machine z) (ofZ-fits w32 z fits .fits))
-    ∙ ap (toZ w32) (pattern-machine z)
-    ∙ toZ-ofZ w32 z fits
-
--- and 32 bits are the pattern of the number that they stand for
-pub pattern-signed : (x : ℕ) → x < 0x1_0000_0000 → patternOf (signedOf x) ≡ x
-pattern-signed x h = pattern-machine (signedOf x) ∙ ap (ofZ w32) (signed-machine x h) ∙ ofZ-toZ w32 x (record { fits = h })
-
--- and that number is one that 32 bits hold
+-- it is one that 32 bits hold
 pub signed-wide : (x : ℕ) → x < 0x1_0000_0000 → mag (signedOf x) < 0x8000_0000
 signed-wide x h = rw (signed-machine x h) (toZ-fits w32 x (record { fits = h }) .sfits)
 
@@ -49,34 +30,3 @@ held {z} h e = toZ-ofZ w32 z (record { sfits = h }) ∙ e
 
 pub passed : {A : Type 0} (make : ℤ → A) {z : ℤ} {x : A} → mag z < 0x8000_0000 → x ≡ make (toZ w32 (ofZ w32 z)) → x ≡ make z
 passed make h e = e ∙ ap make (held h refl)
-
--- Where the machine finds z not below 0, it casts it; below 0 it casts its complement, and complements that.
-abbrev pub notBelow : ℤ → Bool
-notBelow z = leZ (pos 0) (toZ w32 (ofZ w32 z))
-
-pub above-casts : (z : ℤ) → SFits w32 z → notBelow z ≡ true → T (nonNeg (toZ w32 (ofZ w32 z))) × Fits w32 (natAbs (toZ w32 (ofZ w32 z)))
-above-casts (pos n) fits e = rw (toZ-ofZ w32 (pos n) fits) (tt, record { fits = half-full w32 (fits .sfits) })
-above-casts (negsuc n) fits e = absurd (never (rw (toZ-ofZ w32 (negsuc n) fits) at e))
-
-pub above-pattern : (z : ℤ) → SFits w32 z → notBelow z ≡ true → natAbs (toZ w32 (ofZ w32 z)) ≡ patternOf z
-unfolding patternOf
-above-pattern (pos n) fits e = rw (toZ-ofZ w32 (pos n) fits) refl
-above-pattern (negsuc n) fits e = absurd (never (rw (toZ-ofZ w32 (negsuc n) fits) at e))
-
-complement : (n : ℕ) → n < 0x8000_0000 → toZ w32 (0xffff_ffff - ofZ w32 (negsuc n)) ≡ pos n
-complement n h =
-    let twice : 0xffff_ffff - (0x1_0000_0000 - suc n) ≡ n = omega arith in
-    ap (toZ w32) twice ∙ toZ-pos w32 n h
-
--- no number from 0 up is found below 0
-not-found : {A : Type 0} (n : ℕ) → SFits w32 (pos n) → notBelow (pos n) ≡ false → A
-not-found n fits e = absurd (never (sym (rw (toZ-ofZ w32 (pos n) fits) at e) ∙ le-leb 0 n zero-le))
-
-pub below-casts : (z : ℤ) → SFits w32 z → notBelow z ≡ false → T (nonNeg (toZ w32 (0xffff_ffff - ofZ w32 z))) × Fits w32 (natAbs (toZ w32 (0xffff_ffff - ofZ w32 z)))
-below-casts (pos n) fits e = not-found n fits e
-below-casts (negsuc n) fits e = rw (complement n (fits .sfits)) (tt, record { fits = half-full w32 (fits .sfits) })
-
-pub below-pattern : (z : ℤ) → SFits w32 z → notBelow z ≡ false → 0xffff_ffff - natAbs (toZ w32 (0xffff_ffff - ofZ w32 z)) ≡ patternOf z
-unfolding patternOf
-below-pattern (pos n) fits e = not-found n fits e
-below-pattern (negsuc n) fits e = rw (complement n (fits .sfits)) (omega arith)

@@ -1,22 +1,17 @@
--- How each promise is met, case by case; what an answer that keeps it tells; and that it names one answer and one later state. Assumes nothing.
+-- How each promise is met, case by case; what an answer that keeps it tells; and that it names one answer. Assumes nothing.
 use mathlib.Core.Path.{_≡_, _∙_, refl, sym, ap}
 use mathlib.Core.Bool.{Bool, true, false}
-use mathlib.Core.List.{List, map, _++_}
-use Prim.Native.Nat.{ℕ, _<_, _≤_}
+use mathlib.Core.List.{List, map}
+use Prim.Native.Nat.{ℕ, _≤_}
 use native.Mathlib.Omega.{arith}
-use borrow.Author.Tests.{le-leb, lt-leb, eq-eqb, ne-eqb, leb-true}
 use lib.ListN.{length, take}
 use lib.Dec.{leb}
 use Rattle.table.specs.Fill.{tabulated}
 use Rattle.table.specs.Refusals.{granted, refused, rung, numberIn}
-use Rattle.table.specs.declared.Done.{Done}
 use Rattle.table.specs.declared.Refusal.{Refusal}
-use Rattle.table.specs.declared.Refusal.the-variants.{OutputLength, TagLength, WrongSignature, ReservedNotZero, FunctionType}
+use Rattle.table.specs.declared.Refusal.the-variants.{TagLength, WrongSignature, ReservedNotZero, FunctionType}
 use Rattle.table.proofs.Fill.{length-tabulated}
-use Rattle.table.proofs.Refusals.{same-refusal, number-above, same-verdict, rung-granted}
-use Rattle.table.proofs.Answers.{same-done}
-use Rattle.icc.specs.Bytes.{bytes32}
-use Rattle.icc.specs.Words.{inTurn}
+use Rattle.table.proofs.Refusals.{same-refusal, number-above, same-verdict}
 use Rattle.icc.specs.Opening.{reservedZero}
 use Rattle.parametric.specs.declared.Unified.{Unified}
 use Rattle.parametric.specs.Unify.{counted, unified}
@@ -25,8 +20,8 @@ use Rattle.parametric.proofs.Unify.{same-unified}
 use Rattle.para.specs.declared.Numbers.{Numbers}
 use Rattle.para.specs.declared.Read.{Read}
 use Rattle.para.specs.Answers.{numberOfRead, countOfRead, numbersOfRead}
-use Rattle.para.specs.Tag.{isPara, typeOf, typeZeros, countOf, tagLength, total, listed, used, rawAt, numbersOf, head, patterns, tagOf}
-use Rattle.para.specs.Promises.{tagVerdict, ReadPromise, nearest, CurvePromise, writeVerdict, WritePromise}
+use Rattle.para.specs.Tag.{isPara, typeOf, typeZeros, countOf, total, listed, used, rawAt, numbersOf}
+use Rattle.para.specs.Promises.{tagVerdict, ReadPromise, nearest, CurvePromise}
 use Rattle.para.proofs.Counts.{count-most, count-counted}
 use Rattle.para.proofs.Places.{first-used}
 use Rattle.para.proofs.Checks.{readable}
@@ -110,37 +105,7 @@ unfolding tagVerdict
 never-miscounted {b} p e =
     no-seven (leb 12 (length b)) (isPara b) (reservedZero b) (typeZeros b) (leb (typeOf b) 4) (total (countOf (typeOf b)) (length b)) (sym (p .number) ∙ e)
 
--- Writing.
-module _ (t : ℕ) (m : Numbers) (out : List ℕ) where
-  write-refusal : (why : Refusal) → writeVerdict t out ≡ refused why → WritePromise t m out (Done.Refused why) out
-  write-refusal why e = record { number = simp e; after = simp e }
-
-  pub write-untyped : 4 < t → WritePromise t m out (Done.Refused FunctionType) out
-  write-untyped h = write-refusal FunctionType (rw (lt-leb _ _ h) refl)
-
-  pub write-misfit : t ≤ 4 → (length out ≡ tagLength (countOf t) → ⊥) → WritePromise t m out (Done.Refused OutputLength) out
-  write-misfit h n = write-refusal OutputLength (rw (le-leb _ _ h, ne-eqb _ _ n) refl)
-
-  pub write-granted : {out′ : List ℕ} → t ≤ 4 → length out ≡ tagLength (countOf t) → out′ ≡ tagOf t m → WritePromise t m out Done.Yes out′
-  write-granted h e f =
-      let g : writeVerdict t out ≡ granted = rw (le-leb _ _ h, eq-eqb _ _ e) refl in
-      record { number = simp g; after = simp g f }
-
-  -- n being the count that t has, by a head and the numbers after it
-  pub write-done : {first out′ : List ℕ} {n : ℕ} → t ≤ 4 → n ≡ countOf t → length out ≡ tagLength n
-      → first ≡ head t → out′ ≡ first ++ inTurn bytes32 (take n (patterns m)) → WritePromise t m out Done.Yes out′
-  write-done {n = n} h count room f e =
-      write-granted h (room ∙ ap tagLength count)
-      (e
-      ∙ ap (λ (l : List ℕ). l ++ inTurn bytes32 (take n (patterns m))) f
-      ∙ ap (λ (k : ℕ). head t ++ inTurn bytes32 (take k (patterns m))) count)
-
-  pub granted-write : {out′ : List ℕ} → WritePromise t m out Done.Yes out′ → (t ≤ 4) × (out′ ≡ tagOf t m)
-  granted-write p =
-      let g : writeVerdict t out ≡ granted = sym (same-verdict granted (writeVerdict t out) (p .number)) in
-      (leb-true _ _ (rung-granted _ _ _ g .0), simp g at (p .after))
-
--- A promise names one answer and one later state.
+-- A promise names one answer.
 same-read : (r s : Read) → numberOfRead r ≡ numberOfRead s → countOfRead r ≡ countOfRead s → numbersOfRead r ≡ numbersOfRead s → r ≡ s
 same-read (Read.Parameters n m) (Read.Parameters i j) e c v = cc
 same-read (Read.Parameters n m) (Read.Refused b) e c v = absurd (omega (arith, number-above b))
@@ -152,6 +117,3 @@ read-one {b} {r} {s} p q = same-read r s (p .number ∙ sym (q .number)) (p .cou
 
 pub curve-one : {b : List ℕ} {r s : Unified} → CurvePromise b r → CurvePromise b s → r ≡ s
 curve-one {b} {r} {s} p q = same-unified r s (p .number ∙ sym (q .number)) (p .value ∙ sym (q .value))
-
-pub write-one : {t : ℕ} {m : Numbers} {out out′ out″ : List ℕ} {r s : Done} → WritePromise t m out r out′ → WritePromise t m out s out″ → (r ≡ s) × (out′ ≡ out″)
-write-one {r = r} {s = s} p q = (same-done r s (p .number ∙ sym (q .number)), p .after ∙ sym (q .after))

@@ -1,25 +1,21 @@
--- Worked examples, by computation: a tag of each type read, with numbers below 0; a tag read as a curve; tags written; and each refusal, with the order of the
--- refusals. Assumes nothing.
+-- Worked examples, by computation: a tag of each type read, with numbers below 0; a tag read as a curve; and each refusal, with the order of the refusals. Assumes nothing.
 use mathlib.Core.Path.{refl}
 use mathlib.Core.List.{List, [], _∷_}
 use Prim.Native.Nat.{ℕ}
-use lib.ListN.{replicate}
 use lib.IntN.{ℤ, pos, negsuc}
 use lib.Ieee.{binary32, ofBits, round, neg, div}
 use Rattle.table.specs.Fill.{tabulated}
-use Rattle.table.specs.declared.Done.{Done}
-use Rattle.table.specs.declared.Refusal.the-variants.{OutputLength, TagLength, WrongSignature, ReservedNotZero, FunctionType}
-use Rattle.icc.specs.Bytes.{be16, be32, bytes16, bytes32}
-use Rattle.icc.specs.Words.{inTurn}
+use Rattle.table.specs.declared.Refusal.the-variants.{TagLength, WrongSignature, ReservedNotZero, FunctionType}
+use Rattle.icc.specs.Bytes.{be16, be32}
 use Rattle.icc.specs.Opening.{stands}
 use Rattle.rounding.specs.Nearest.{ratio}
 use Rattle.parametric.specs.declared.Unified.{Unified}
 use Rattle.parametric.specs.Unify.{unified}
 use Rattle.para.specs.declared.Numbers.{Numbers}
 use Rattle.para.specs.declared.Read.{Read}
-use Rattle.para.specs.Signed.{signedOf, patternOf}
-use Rattle.para.specs.Tag.{countOf, total, rawAt, numbersOf, head}
-use Rattle.para.specs.Promises.{tagVerdict, ReadPromise, CurvePromise, WritePromise}
+use Rattle.para.specs.Signed.{signedOf}
+use Rattle.para.specs.Tag.{countOf, total, rawAt, numbersOf}
+use Rattle.para.specs.Promises.{tagVerdict, ReadPromise, CurvePromise}
 
 abbrev raw : ℤ → ℤ → ℤ → ℤ → ℤ → ℤ → ℤ → Numbers
 raw g a b c d e f = record { g = g; a = a; b = b; c = c; d = d; e = e; f = f }
@@ -99,15 +95,6 @@ refused-curve : CurvePromise [] (Unified.Refused TagLength)
 unfolding tagVerdict
 refused-curve = record { number = refl; value = refl }
 
--- Written; a number that the type does not use is ignored.
-five-written : WritePromise 3 (raw (pos 157286) (pos 62119) (pos 3417) (pos 5072) (pos 2651) (pos 7) (negsuc 7)) (replicate 32 7) Done.Yes five
-unfolding countOf head inTurn bytes16 bytes32 patternOf
-five-written = record { number = refl; after = refl }
-
-seven-written : WritePromise 4 (raw (pos 1) (pos 256) (pos 65536) (pos 16777216) (pos 2147483647) (negsuc 2147483646) (negsuc 131071)) (replicate 40 7) Done.Yes seven
-unfolding countOf head inTurn bytes16 bytes32 patternOf
-seven-written = record { number = refl; after = refl }
-
 -- Each refusal of a reading, the earlier one where two apply.
 short : ReadPromise (112 ∷ 97 ∷ 114 ∷ 97 ∷ 0 ∷ 0 ∷ 0 ∷ 0 ∷ 0 ∷ 0 ∷ 0 ∷ []) (Read.Refused TagLength)
 unfolding tagVerdict
@@ -145,11 +132,3 @@ too-short = record { number = refl; count = refl; numbers = refl }
 too-long : ReadPromise (begun 0 (0 ∷ 2 ∷ 51 ∷ 51 ∷ 0 ∷ 0 ∷ 0 ∷ 0 ∷ [])) (Read.Refused TagLength)
 unfolding tagVerdict stands total be16 countOf
 too-long = record { number = refl; count = refl; numbers = refl }
-
--- And of a writing: the buffer stays as it was lent.
-untyped-written : (m : Numbers) → WritePromise 5 m (7 ∷ []) (Done.Refused FunctionType) (7 ∷ [])
-untyped-written m = record { number = refl; after = refl }
-
-misfit-written : (m : Numbers) → WritePromise 0 m (replicate 20 7) (Done.Refused OutputLength) (replicate 20 7)
-unfolding countOf
-misfit-written m = record { number = refl; after = refl }

@@ -1,17 +1,14 @@
--- What each call of this crate promises: when it is refused and by which number, its values, and what the lent buffer holds after it.
--- Assumes nothing.
+-- What each call of this crate promises: when it is refused and by which number, and its values. Assumes nothing.
 use Prim.Native.Nat.{ℕ}
 use mathlib.Core.Path.{_≡_}
 use mathlib.Core.List.{List}
 use lib.ListN.{length}
-use lib.Dec.{leb, eqb}
+use lib.Dec.{leb}
 use lib.IntN.{ℤ}
 use lib.Ieee.{Float}
 use Rattle.table.specs.Fill.{tabulated}
 use Rattle.table.specs.Refusals.{Verdict, granted, rung, numberIn, ifGranted}
-use Rattle.table.specs.Answers.{numberOfDone}
-use Rattle.table.specs.declared.Done.{Done}
-use Rattle.table.specs.declared.Refusal.the-variants.{OutputLength, TagLength, WrongSignature, ReservedNotZero, FunctionType}
+use Rattle.table.specs.declared.Refusal.the-variants.{TagLength, WrongSignature, ReservedNotZero, FunctionType}
 use Rattle.icc.specs.Opening.{reservedZero}
 use Rattle.rounding.specs.Nearest.{ratio}
 use Rattle.parametric.specs.declared.ParametricCurve.{ParametricCurve}
@@ -21,7 +18,7 @@ use Rattle.parametric.specs.Promises.{numberOfUnified, valueOfUnified, noCurve}
 use Rattle.para.specs.declared.Numbers.{Numbers}
 use Rattle.para.specs.declared.Read.{Read}
 use Rattle.para.specs.Answers.{numberOfRead, countOfRead, numbersOfRead, noNumbers}
-use Rattle.para.specs.Tag.{isPara, typeOf, typeZeros, countOf, total, rawAt, numbersOf, tagOf, tagLength}
+use Rattle.para.specs.Tag.{isPara, typeOf, typeZeros, countOf, total, rawAt, numbersOf}
 
 -- The tag's own checks, which every call that reads a tag makes: fewer than 12 bytes, 8; a wrong signature, 9; a reserved byte that is not zero,
 -- among bytes 4 to 7 or 10 and 11, 10; a function type above 4, 11; a wrong total, 8.
@@ -51,14 +48,3 @@ curveOf b = unified (tabulated (λ k. nearest (rawAt b k)) (countOf (typeOf b)))
 pub record CurvePromise (b : List ℕ) (r : Unified) : Type 0 where
   pub number : numberOfUnified r ≡ numberIn (tagVerdict b)
   pub value : valueOfUnified r ≡ ifGranted (tagVerdict b) (curveOf b) noCurve
-
--- Writing a type and seven numbers as a tag: refused for a type above 4, 11; for a buffer of other than 12 plus four bytes for each number, 6.
-abbrev pub writeVerdict : ℕ → List ℕ → Verdict
-writeVerdict t out =
-    rung (leb t 4) FunctionType
-    (rung (eqb (length out) (tagLength (countOf t))) OutputLength
-    granted)
-
-pub record WritePromise (t : ℕ) (m : Numbers) (out : List ℕ) (r : Done) (out′ : List ℕ) : Type 0 where
-  pub number : numberOfDone r ≡ numberIn (writeVerdict t out)
-  pub after : out′ ≡ ifGranted (writeVerdict t out) (tagOf t m) out

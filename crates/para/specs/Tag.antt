@@ -2,17 +2,16 @@
 -- signed 16.16 numbers for t = 0 to 4. Assumes nothing.
 use Prim.Native.Nat.{ℕ, _+_, _*_, _<_}
 use mathlib.Core.Bool.{Bool}
-use mathlib.Core.List.{List, [], _∷_, _++_, map}
-use lib.ListN.{getD, take}
+use mathlib.Core.List.{List, [], _∷_}
+use lib.ListN.{getD}
 use lib.Dec.{eqb, ltb}
 use lib.IntN.{ℤ, pos}
 use lib.Signed.{mag}
 use Rattle.table.specs.Choice.{pick}
-use Rattle.icc.specs.Bytes.{be16, be32, bytes16, bytes32}
-use Rattle.icc.specs.Words.{inTurn}
-use Rattle.icc.specs.Opening.{stands, signedBy, opening}
+use Rattle.icc.specs.Bytes.{be16, be32}
+use Rattle.icc.specs.Opening.{stands, signedBy}
 use Rattle.para.specs.declared.Numbers.{Numbers}
-use Rattle.para.specs.Signed.{signedOf, patternOf}
+use Rattle.para.specs.Signed.{signedOf}
 
 -- the signature
 abbrev pub isPara : List ℕ → Bool
@@ -65,13 +64,3 @@ rawAt b k = signedOf (be32 b (12 + 4 * k))
 
 unfoldable pub numbersOf : List ℕ → Numbers
 numbersOf b = used (countOf (typeOf b)) (rawAt b)
-
--- What is written for a type and seven numbers: the first twelve bytes, and four for each number that the type has. The others are ignored.
-unfoldable pub head : ℕ → List ℕ
-head t = opening 0x70 0x61 0x72 0x61 ++ (bytes16 t ++ (0 ∷ 0 ∷ []))
-
-abbrev pub patterns : Numbers → List ℕ
-patterns m = map patternOf (listed m)
-
-abbrev pub tagOf : ℕ → Numbers → List ℕ
-tagOf t m = head t ++ inTurn bytes32 (take (countOf t) (patterns m))

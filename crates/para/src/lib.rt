@@ -1,7 +1,4 @@
-// The para tag of ICC.1: its numbers read, read as a curve, and written.
-use icc::inside::put_opening;
-use icc::inside::put_u16;
-use icc::inside::put_u32;
+// The para tag of ICC.1: its numbers read, and read as a curve.
 use icc::inside::reserved;
 use icc::inside::signed;
 use icc::inside::u16_at;
@@ -12,15 +9,15 @@ use rounding::s15_fixed16_number_to_float;
 use table::Done;
 use table::Refusal;
 ghost use mathlib.Core.Path.{_≡_};
-ghost use mathlib.Core.List.{_++_, map};
+ghost use mathlib.Core.List.{map};
 ghost use Prim.Native.Nat.{_≤_};
 ghost use lib.ListN.{length, take};
-ghost use Rattle.icc.specs.Bytes.{bytes32};
-ghost use Rattle.icc.specs.Words.{inTurn};
 ghost use Rattle.parametric.specs.Promises.{NewPromise};
-ghost use Rattle.para.specs.Signed.{signedOf, patternOf};
-ghost use Rattle.para.specs.Tag.{typeZeros, countOf, tagLength, total, listed, usedAt, used, rawAt, head, patterns};
-ghost use Rattle.para.specs.Promises.{ReadPromise, nearest, CurvePromise, WritePromise};
+ghost use Rattle.para.specs.Signed.{signedOf};
+ghost use Rattle.para.specs.Tag.{typeZeros, tagLength, total, listed, usedAt, used, rawAt};
+ghost use Rattle.para.specs.Promises.{ReadPromise, nearest, CurvePromise};
+
+pub mod inside;
 
 // Seven raw 16.16 numbers in a tag's order, by ICC.1's letters.
 pub struct Numbers {
@@ -39,7 +36,7 @@ pub enum Read {
     Refused(Refusal),
 }
 
-// Two's complement. An `as` may lose nothing here, so a pattern from 2^31 on goes by its complement, and so does a number below 0.
+// Two's complement. An `as` may lose nothing here, so a pattern from 2^31 on goes by its complement.
 fn signed_of(x: u32) -> i32
     ensures { λ r. ⌜ r ≡ signedOf x ⌝ }
 {
@@ -49,43 +46,12 @@ fn signed_of(x: u32) -> i32
     !(!x as i32)
 }
 
-fn pattern_of(z: i32) -> u32
-    ensures { λ r. ⌜ r ≡ patternOf z ⌝ }
-{
-    if z >= 0 {
-        return z as u32;
-    }
-    !(!z as u32)
-}
-
-// How many numbers a function type has.
-fn count_of(t: usize) -> usize
-    requires { ⌜ t ≤ 4 ⌝ }
-    ensures { λ r. ⌜ (r ≡ countOf t) × (r ≤ 7) ⌝ }
-{
-    match t {
-        0 => 1,
-        1 => 3,
-        2 => 4,
-        3 => 5,
-        _ => 7,
-    }
-}
-
-// How many bytes n numbers and the twelve before them are.
-fn tag_length(n: usize) -> usize
-    requires { ⌜ n ≤ 7 ⌝ }
-    ensures { λ r. ⌜ r ≡ tagLength n ⌝ }
-{
-    12 + 4 * n
-}
-
 // Whether a tag of n numbers may be `len` bytes long.
 fn whole(n: usize, len: usize) -> bool
     requires { ⌜ n ≤ 7 ⌝ }
     ensures { λ r. ⌜ r ≡ total n len ⌝ }
 {
-    len == tag_length(n)
+    len == inside::tag_length(n)
 }
 
 // Whether the two reserved bytes after the function type are zero.
@@ -146,7 +112,7 @@ pub fn read_para(tag: &[u8]) -> Read
     if 4 < function_type {
         return Read::Refused(Refusal::FunctionType);
     }
-    let n = count_of(function_type);
+    let n = inside::count_of(function_type);
     if !whole(n, tag.len()) {
         return Read::Refused(Refusal::TagLength);
     }
@@ -178,59 +144,4 @@ pub fn read_parametric_curve(tag: &[u8]) -> Unified
         Read::Refused(why) => Unified::Refused(why),
         Read::Parameters(n, numbers) => curve_from(numbers, n),
     }
-}
-
-// The first twelve bytes of a tag of type t.
-fn put_head(out: &mut [u8], t: u16)
-    requires { ⌜ 12 ≤ length (now out) ⌝ }
-    ensures { λ _. ⌜ take 12 (now (out .exit)) ≡ head t ⌝ }
-{
-    put_opening(out, 0x70, 0x61, 0x72, 0x61);
-    put_u16(out, 8, t);
-    put_u16(out, 10, 0);
-}
-
-// The patterns' bytes, after the first twelve.
-fn put_patterns(patterns: &[u32], out: &mut [u8])
-    requires { ⌜ length (now out) ≡ tagLength (length (now patterns)) ⌝ }
-    ensures { λ _. ⌜ now (out .exit) ≡ take 12 (now (out .entry)) ++ inTurn bytes32 (now (patterns .entry)) ⌝ }
-{
-    let mut k = 0;
-    while k < patterns.len() {
-        put_u32(out, 12 + 4 * k, patterns[k]);
-        k += 1;
-    }
-}
-
-// The bytes of the first n numbers, after the first twelve.
-fn put_numbers(numbers: Numbers, n: usize, out: &mut [u8])
-    requires { ⌜ n ≤ 7 ⌝ ∗ ⌜ length (now out) ≡ tagLength n ⌝ }
-    ensures { λ _. ⌜ now (out .exit) ≡ take 12 (now (out .entry)) ++ inTurn bytes32 (take n (patterns numbers)) ⌝ }
-{
-    let patterns = [
-        pattern_of(numbers.g),
-        pattern_of(numbers.a),
-        pattern_of(numbers.b),
-        pattern_of(numbers.c),
-        pattern_of(numbers.d),
-        pattern_of(numbers.e),
-        pattern_of(numbers.f),
-    ];
-    put_patterns(&patterns[..n], out);
-}
-
-// Writes a function type and the numbers that it uses as a tag.
-pub fn write_para(t: usize, numbers: Numbers, out: &mut [u8]) -> Done
-    ensures { λ r. ⌜ WritePromise t numbers (now (out .entry)) r (now (out .exit)) ⌝ }
-{
-    if 4 < t {
-        return Done::Refused(Refusal::FunctionType);
-    }
-    let n = count_of(t);
-    if out.len() != tag_length(n) {
-        return Done::Refused(Refusal::OutputLength);
-    }
-    put_head(out, t as u16);
-    put_numbers(numbers, n, out);
-    Done::Yes
 }

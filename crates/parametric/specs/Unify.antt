@@ -12,8 +12,8 @@ use Rattle.parametric.specs.declared.ParametricCurve.{ParametricCurve}
 abbrev pub nought : Float
 nought = ofBits binary32 0
 
-abbrev pub unit : Float
-unit = ofBits binary32 0x3f80_0000
+abbrev pub one : Float
+one = ofBits binary32 0x3f80_0000
 
 -- d = -b/a, an f32 step: an infinity or a NaN where a is 0
 abbrev pub crossing : Float → Float → Float
@@ -21,7 +21,7 @@ crossing a b = div binary32 (neg b) a
 
 -- one gives a = 1, the rest 0
 abbrev pub ofOne : Float → ParametricCurve
-ofOne g = record { g = g; a = unit; b = nought; c = nought; d = nought; e = nought; f = nought }
+ofOne g = record { g = g; a = one; b = nought; c = nought; d = nought; e = nought; f = nought }
 
 -- three set c = 0, d = -b/a and e = f = 0
 abbrev pub ofThree : Float → Float → Float → ParametricCurve

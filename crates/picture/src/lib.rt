@@ -1,27 +1,53 @@
-// A stand-in for the picture of a table, with its signatures.
-pub fn plot_rows() -> usize {
-    1
+// A curve's picture as text: the lines of a plot for a terminal, and the pieces of an svg file for a browser. Drive runs across and density up.
+// Nothing is read or written here: the caller lends a buffer and sends it on.
+use table::sized;
+ghost use mathlib.Core.Path.{_≡_};
+ghost use Rattle.picture.specs.Promises.{LinePromise, pieceCount, PiecePromise};
+
+mod digits;
+mod place;
+mod plot;
+mod reach;
+mod svg;
+
+// How many lines a plot has: its rows, the axis, and the scale below it.
+pub fn plot_rows() -> usize
+    ensures { λ r. ⌜ r ≡ 22 ⌝ }
+{
+    plot::LINES
 }
 
-pub fn plot_line(table: &[u16], row: usize, out: &mut [u8; 128]) -> usize {
-    out[0] = b'.';
-    if table.len() > row {
-        return 1;
+// Writes a line of the table's plot, with no newline, and gives its length. A line that does not exist, and any line of a table
+// of no or more than 65,536 entries, has length 0.
+pub fn plot_line(table: &[u16], row: usize, out: &mut [u8; 128]) -> usize
+    ensures { λ r. ⌜ LinePromise (now (table .entry)) row r ⌝ }
+{
+    if !sized(table.len()) {
+        return 0;
     }
-    0
+    plot::line(table, row, out)
 }
 
-pub fn svg_pieces(table: &[u16]) -> usize {
-    if table.len() > 0 {
-        return 1;
+// How many pieces the table's svg file has: 0 for a table of no or more than 65,536 entries.
+pub fn svg_pieces(table: &[u16]) -> usize
+    ensures { λ r. ⌜ r ≡ pieceCount (now (table .entry)) ⌝ }
+{
+    if !sized(table.len()) {
+        return 0;
     }
-    0
+    svg::pieces(table.len())
 }
 
-pub fn svg_piece(table: &[u16], k: usize, out: &mut [u8; 512]) -> usize {
-    out[0] = b'.';
-    if table.len() > k {
-        return 1;
+// Writes piece k of the table's svg file and gives its length. The pieces from 0 on, one after the other, are the file. A piece that does
+// not exist has length 0.
+pub fn svg_piece(table: &[u16], k: usize, out: &mut [u8; 512]) -> usize
+    ensures { λ r. ⌜ PiecePromise (now (table .entry)) k r ⌝ }
+{
+    if !sized(table.len()) {
+        return 0;
     }
-    0
+    if svg::pieces(table.len()) <= k {
+        return 0;
+    }
+    svg::piece(table, k, out)
 }

@@ -6,7 +6,7 @@ use crate::cases::{Answer, Cases, Record};
 use crate::floats::{self, CORNERS_32, CORNERS_64, bits};
 use crate::generator::Generator;
 use crate::layout::{LUT_INTERP_LINEAR, LUT_INTERP_LINEAR_FLOAT, OUTSIDE, PASSTHROUGH_TABLE_IMPL, refusal};
-use crate::tables::{LARGE_LENGTHS, SMALL_LENGTHS, TOO_LONG};
+use crate::tables::{SMALL_LENGTHS, TOO_LONG};
 use crate::{rules, tables};
 
 pub fn linear(cases: &mut Cases, g: &mut Generator, share: u64) {
@@ -91,9 +91,11 @@ pub fn linear_float(cases: &mut Cases, g: &mut Generator, share: u64) {
     let large = share * 3 / 10;
     let until = cases.written(routine) + large;
     let questions = (large / 16).clamp(16, 4096) as usize;
-    for turn in 0..MANY {
-        if turn < LARGE_LENGTHS.len() || cases.written(routine) < until {
-            float_list(cases, g, LARGE_LENGTHS[turn % LARGE_LENGTHS.len()], questions);
+    let lengths = cases.large_lengths(routine);
+    let most = if cases.is_small() { lengths.len() } else { MANY };
+    for turn in 0..most {
+        if turn < lengths.len() || cases.written(routine) < until {
+            float_list(cases, g, lengths[turn % lengths.len()], questions);
         }
     }
     while cases.written(routine) < share {

@@ -6,7 +6,7 @@ use crate::cases::{Answer, Cases, Record};
 use crate::generator::Generator;
 use crate::layout::{INVERT_LUT, LUT_INVERSE_INTERP16, refusal};
 use crate::tables::{LARGE_LENGTHS, SMALL_LENGTHS, random_table};
-use crate::{rules, tables};
+use crate::{rules, small, tables};
 
 /// The ends, and each letter of the short tables with its neighbours.
 const VALUES: [u16; 14] = [0, 1, 2, 50, 99, 100, 101, 16384, 32767, 32768, 32769, 65533, 65534, 65535];
@@ -162,34 +162,57 @@ fn with_steep_cell(g: &mut Generator, cells: usize, cell: usize, ends: [usize; 2
 /// Long tables whose runs of 0 or of 65535 lie about the limits of the Rust's i32 products: each once, then more of them.
 fn about_the_overflow(cases: &mut Cases, g: &mut Generator, part: u64) {
     let questions = (part / 24).clamp(24, 256);
+    if cases.is_small() {
+        for turn in small::LONG_RUNS {
+            invert_with_long_run(cases, g, turn, questions);
+        }
+        return;
+    }
     let mut turn = 0;
     let until = cases.written(LUT_INVERSE_INTERP16) + part;
     while turn < 24 || (turn < 96 && cases.written(LUT_INVERSE_INTERP16) < until) {
-        let length = LARGE_LENGTHS[turn / 2 % LARGE_LENGTHS.len()];
-        let mut table = tables::rising(g, length);
-        if turn % 2 == 0 {
-            let zeros = ZEROS[turn / 2 % ZEROS.len()].min(length);
-            table[..zeros].fill(0);
-        } else {
-            let before = BEFORE_LAST_RUN[turn / 2 % BEFORE_LAST_RUN.len()].min(length - 3);
-            table[before + 1..].fill(65535);
-        }
-        let mut record = Record::of_table(LUT_INVERSE_INTERP16, &table);
-        for _ in 0..questions {
-            let value = tables::value(g, &table);
-            invert_one(&mut record, &table, value);
-        }
-        cases.put(record);
+        invert_with_long_run(cases, g, turn, questions);
         turn += 1;
     }
 }
 
+/// The table of this turn: zeros first in the even ones, 65535 last in the odd ones.
+fn with_long_run(g: &mut Generator, turn: usize) -> Vec<u16> {
+    let length = LARGE_LENGTHS[turn / 2 % LARGE_LENGTHS.len()];
+    let mut table = tables::rising(g, length);
+    if turn % 2 == 0 {
+        let zeros = ZEROS[turn / 2 % ZEROS.len()].min(length);
+        table[..zeros].fill(0);
+    } else {
+        let before = BEFORE_LAST_RUN[turn / 2 % BEFORE_LAST_RUN.len()].min(length - 3);
+        table[before + 1..].fill(65535);
+    }
+    table
+}
+
+fn invert_with_long_run(cases: &mut Cases, g: &mut Generator, turn: usize, questions: u64) {
+    let table = with_long_run(g, turn);
+    let mut record = Record::of_table(LUT_INVERSE_INTERP16, &table);
+    for _ in 0..questions {
+        let value = tables::value(g, &table);
+        invert_one(&mut record, &table, value);
+    }
+    cases.put(record);
+}
+
 pub fn invert(cases: &mut Cases, g: &mut Generator, share: u64) {
     refused(cases, g);
+    if cases.is_small() {
+        let table = with_long_run(g, small::LONG_RUN_INVERTED);
+        let mut record = Record::of_table(INVERT_LUT, &table);
+        invert_all(&mut record, &table, 17);
+        cases.put(record);
+    }
     let mut turn = 0;
     while cases.written(INVERT_LUT) < share {
         let left = share - cases.written(INVERT_LUT);
-        let length = if turn % 8 == 5 { LARGE_LENGTHS[turn / 8 % LARGE_LENGTHS.len()] } else { g.pick(&SMALL_LENGTHS) };
+        let is_large = turn % 8 == 5 && !cases.is_small();
+        let length = if is_large { LARGE_LENGTHS[turn / 8 % LARGE_LENGTHS.len()] } else { g.pick(&SMALL_LENGTHS) };
         let table = random_table(g, length);
         let mut record = Record::of_table(INVERT_LUT, &table);
         invert_all(&mut record, &table, inverted_length(g, turn, left));
@@ -201,6 +224,9 @@ pub fn invert(cases: &mut Cases, g: &mut Generator, share: u64) {
 /// Lengths that are refused, of a table that is not, and one that is not of tables that are.
 fn refused(cases: &mut Cases, g: &mut Generator) {
     for length in [0, 1, 2, 300, tables::TOO_LONG] {
+        if length == tables::TOO_LONG && !cases.asks_too_long(INVERT_LUT) {
+            continue;
+        }
         let table = tables::neither(g, length);
         let mut record = Record::of_table(INVERT_LUT, &table);
         for inverted in [0, 1, 2, tables::TOO_LONG] {

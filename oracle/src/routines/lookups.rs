@@ -71,6 +71,9 @@ pub fn gamma(cases: &mut Cases, g: &mut Generator, share: u64) {
     let mut record = Record::of_table(LUT_INTERP_LINEAR_GAMMA_IMPL, &[0, 65535]);
     code(&mut record, &[0, 65535], 2, 10, 1);
     cases.put(record);
+    if cases.is_small() {
+        an_input_beyond(cases);
+    }
     about_a_step(cases, g, share / 50);
     about_the_overflow(cases, g, share / 20);
     Asking {
@@ -93,6 +96,13 @@ pub fn gamma(cases: &mut Cases, g: &mut Generator, share: u64) {
         large: MANY,
     }
     .write(cases, g, share);
+}
+
+/// One entry, at which the Rust answers even an input beyond its N: too seldom met for the small list.
+fn an_input_beyond(cases: &mut Cases) {
+    let mut record = Record::of_table(LUT_INTERP_LINEAR_GAMMA_IMPL, &[1000]);
+    code(&mut record, &[1000], 2, 8, 2);
+    cases.put(record);
 }
 
 /// An N in the range, with the two largest at times and those outside it seldom.

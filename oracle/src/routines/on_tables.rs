@@ -3,7 +3,7 @@
 
 use crate::cases::{Cases, Record};
 use crate::generator::Generator;
-use crate::tables::{LARGE_LENGTHS, SHORT_TABLES, SMALL_LENGTHS, TOO_LONG, neither, random_table, short_table};
+use crate::tables::{SHORT_TABLES, SMALL_LENGTHS, TOO_LONG, neither, random_table, short_table};
 
 /// A table of its own, and what is asked of it.
 pub type Corner = (&'static [u16], &'static [u16]);
@@ -41,8 +41,10 @@ where
     /// Writes answers until the routine has `share` of them; those that it has already count.
     pub fn write(&self, cases: &mut Cases, g: &mut Generator, share: u64) {
         self.random_on(cases, g, &[], 8);
-        let too_long = neither(g, TOO_LONG);
-        self.random_on(cases, g, &too_long, 8);
+        if cases.asks_too_long(self.routine) {
+            let too_long = neither(g, TOO_LONG);
+            self.random_on(cases, g, &too_long, 8);
+        }
         self.short_tables(cases, share / 4);
         self.large_tables(cases, g, share * 3 / 10);
         self.small_tables(cases, g, share);
@@ -72,11 +74,13 @@ where
     fn large_tables(&self, cases: &mut Cases, g: &mut Generator, part: u64) {
         let until = cases.written(self.routine) + part;
         let questions = (part / 16).clamp(16, 4096) as usize;
-        for turn in 0..self.large {
-            if turn >= LARGE_LENGTHS.len() && cases.written(self.routine) >= until {
+        let lengths = cases.large_lengths(self.routine);
+        let most = if cases.is_small() { lengths.len() } else { self.large };
+        for turn in 0..most {
+            if turn >= lengths.len() && cases.written(self.routine) >= until {
                 return;
             }
-            let table = random_table(g, LARGE_LENGTHS[turn % LARGE_LENGTHS.len()]);
+            let table = random_table(g, lengths[turn % lengths.len()]);
             self.random_on(cases, g, &table, questions);
         }
     }

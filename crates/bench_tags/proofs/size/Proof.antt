@@ -1,6 +1,6 @@
 -- `size` is safe: a number from 0 up fits, and so does the complement of one below 0. Assumes nothing.
 use borrow.Author.Needs.{needs}
-use Rattle.para.proofs.Complement.{above-casts, below-casts}
+use Rattle.para_writer.proofs.Complement.{above-casts, below-casts}
 use Rattle.bench_tags.proofs.size.Statement.{statement}
 use Rattle.bench_tags.proofs.size.Tie as tie
 

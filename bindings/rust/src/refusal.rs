@@ -1,0 +1,99 @@
+//! Why a call is refused.
+use core::fmt;
+
+/// Why a call was refused. It has then changed nothing.
+///
+/// Each case has a number, the same in every language that calls the library, and says as text what to do.
+///
+/// ```
+/// use brassgroat::Refusal;
+///
+/// let refusal = brassgroat::accept(&[7, 3]).unwrap_err();
+/// assert_eq!(refusal, Refusal::NotNondecreasing);
+/// assert_eq!(refusal.number(), 2);
+/// assert_eq!(refusal.to_string(), "an entry of the table is below the one before it: put the entries in order, none below the one before");
+/// ```
+#[repr(u32)]
+#[derive(Clone, Copy, Debug, PartialEq, Eq, Hash)]
+pub enum Refusal {
+    /// The table's length is 0 or above 65,536; of [`start`](crate::start), below 2 or above; of calls that say so, only above.
+    TableLength = 1,
+    /// An entry of the table is below the one before it.
+    NotNondecreasing = 2,
+    /// The index is beyond the table, or the gamma lookup's input is at or above its `inputs`.
+    IndexBeyond = 3,
+    /// The nudged entry would be below its left or above its right neighbour.
+    OutsideNeighbours = 4,
+    /// The density is above the last entry, so that no position reaches it.
+    AboveLast = 5,
+    /// The output is not exactly as long as needed.
+    OutputLength = 6,
+    /// A parametric curve has 1, 3, 4, 5 or 7 parameters.
+    ParameterCount = 7,
+    /// The tag has fewer than 12 bytes, or the wrong total length.
+    TagLength = 8,
+    /// The tag has another signature.
+    WrongSignature = 9,
+    /// A reserved byte of the tag is not zero.
+    ReservedNotZero = 10,
+    /// The function type is above 4.
+    FunctionType = 11,
+    /// The gamma lookup's `inputs` or `depth`, or the length of an inverted or a passthrough table, is outside its range.
+    OutsideRange = 12,
+    /// The input of [`lut_interp_linear`](crate::lut_interp_linear) is a NaN, below 0 or above 1.
+    OutsideUnit = 13,
+}
+
+impl Refusal {
+    /// Every refusal, by its number.
+    pub const ALL: [Refusal; 13] = [
+        Refusal::TableLength,
+        Refusal::NotNondecreasing,
+        Refusal::IndexBeyond,
+        Refusal::OutsideNeighbours,
+        Refusal::AboveLast,
+        Refusal::OutputLength,
+        Refusal::ParameterCount,
+        Refusal::TagLength,
+        Refusal::WrongSignature,
+        Refusal::ReservedNotZero,
+        Refusal::FunctionType,
+        Refusal::OutsideRange,
+        Refusal::OutsideUnit,
+    ];
+
+    /// Its number, from 1 to 13.
+    pub const fn number(self) -> u32 {
+        self as u32
+    }
+}
+
+impl fmt::Display for Refusal {
+    fn fmt(&self, f: &mut fmt::Formatter<'_>) -> fmt::Result {
+        f.write_str(match self {
+            Refusal::TableLength => "the table is empty or has more than 65,536 entries: lend one of 1 to 65,536, or of 2 and more to start",
+            Refusal::NotNondecreasing => "an entry of the table is below the one before it: put the entries in order, none below the one before",
+            Refusal::IndexBeyond => "the index is beyond the table: give one below its length, or an input below the number of inputs",
+            Refusal::OutsideNeighbours => "the entry would pass a neighbour: give a density between the entries to its left and right, or nudge those first",
+            Refusal::AboveLast => "no position reaches the density: ask for one that is not above the table's last entry",
+            Refusal::OutputLength => "the output has the wrong length: lend one of exactly the length that the call names",
+            Refusal::ParameterCount => "a parametric curve has 1, 3, 4, 5 or 7 parameters: give as many",
+            Refusal::TagLength => "the tag has fewer than 12 bytes, or not as many as it says: lend the whole tag and no more",
+            Refusal::WrongSignature => "the tag has another signature: read it by the call for its kind",
+            Refusal::ReservedNotZero => "a reserved byte of the tag is not zero: the tag is damaged, or of another kind",
+            Refusal::FunctionType => "the function type is above 4: ICC.1 has types 0 to 4",
+            Refusal::OutsideRange => "a size is outside its range: 2 to 65,536 inputs or entries, and 1 to 16 bits",
+            Refusal::OutsideUnit => "the input is a NaN, below 0 or above 1: bring it into that range first",
+        })
+    }
+}
+
+impl core::error::Error for Refusal {}
+
+/// What a call's number says: done at 0, else the refusal.
+pub(crate) fn granted(number: u32) -> Result<(), Refusal> {
+    match number {
+        0 => Ok(()),
+        n => Err(*Refusal::ALL.get(n as usize - 1).expect("the archive gives a number from 0 to 13")),
+    }
+}

@@ -1,0 +1,4 @@
+-- `One`: each promise names one answer. `Refused`: what a refused answer holds. `Parts`: the part of a tag as it crosses.
+pub mod One
+pub mod Refused
+pub mod Parts

@@ -1,0 +1,140 @@
+-- A refused answer that crosses has 0 in every place but the refusal's. Assumes nothing.
+use Prim.Native.Nat.{ℕ}
+use mathlib.Core.Path.{_≡_, refl, sym, ap, _∙_}
+use mathlib.Core.Bool.{false}
+use mathlib.Core.List.{List}
+use mathlib.Core.Logic.{_⊎_, inl, inr, ⊎-elim}
+use denote.Ref.{RefT}
+use Rattle.table.specs.declared.Looked.{Looked}
+use Rattle.table.specs.declared.Sought.{Sought}
+use Rattle.gamma.specs.declared.Coded.{Coded}
+use Rattle.ieee.specs.Range.{nought}
+use Rattle.interp.specs.declared.Interpolated.{Interpolated}
+use Rattle.parametric.specs.declared.Unified.{Unified}
+use Rattle.parametric.specs.Promises.{noCurve}
+use Rattle.matan.specs.declared.monotonic.Monotonic.{Monotonic}
+use Rattle.matan.specs.declared.degeneration.Degenerated.{Degenerated}
+use Rattle.curv.specs.declared.Counted.{Counted}
+use Rattle.para.specs.declared.Read.{Read}
+use Rattle.para.specs.Answers.{noNumbers}
+use Rattle.brassgroat.specs.declared.answers.Sample.{Sample}
+use Rattle.brassgroat.specs.declared.answers.Position.{Position}
+use Rattle.brassgroat.specs.declared.lookups.Code.{Code}
+use Rattle.brassgroat.specs.declared.floats.Real.{Real}
+use Rattle.brassgroat.specs.declared.parametrics.Parametric.{Parametric}
+use Rattle.brassgroat.specs.declared.verdicts.Monotony.{Monotony}
+use Rattle.brassgroat.specs.declared.verdicts.Degeneration.{Degeneration}
+use Rattle.brassgroat.specs.declared.curv_tags.Count.{Count}
+use Rattle.brassgroat.specs.declared.curv_tags.Part.{Part}
+use Rattle.brassgroat.specs.declared.para_tags.Para.{Para}
+use Rattle.brassgroat.specs.Carried.{Carried, PartCarried}
+use Rattle.brassgroat.specs.Answers.{asSample, asPosition, asCode, asReal, asCurve, asParametric, asRaw, asMonotony, asDegeneration, asCount, asPara}
+use Rattle.brassgroat.proofs.Parts.{part-refused}
+use Rattle.brassgroat.proofs.One.{bg-part-one}
+
+-- Where each answer of the library is either granted or has nothing in its other places, so it is with what crosses.
+module _ {L R : Type 0} {places : L → R} {promise : L → Type 0} {r : R} (number : R → ℕ) (bare : ℕ → R) (each : (l : L) → (number (places l) ≡ 0) ⊎ (places l ≡ bare (number (places l)))) where
+  pub bare-refused : Carried places promise r → (number r ≡ 0 → ⊥) → r ≡ bare (number r)
+  bare-refused c some =
+      ⊎-elim
+      (λ e. absurd (some (ap number (c .same) ∙ e)))
+      (λ e. c .same ∙ e ∙ ap (λ (x : R). bare (number x)) (sym (c .same)))
+      (each (c .answer))
+
+-- What is left of each kind of answer.
+abbrev pub bareSample : ℕ → Sample
+bareSample n = record { refusal = n; density = record { 0 = 0 } }
+
+abbrev pub barePosition : ℕ → Position
+barePosition n = record { refusal = n; drive = record { 0 = 0 } }
+
+abbrev pub bareCode : ℕ → Code
+bareCode n = record { refusal = n; code = 0 }
+
+abbrev pub bareReal : ℕ → Real
+bareReal n = record { refusal = n; value = nought }
+
+abbrev pub bareParametric : ℕ → Parametric
+bareParametric n = record { refusal = n; curve = asCurve noCurve }
+
+abbrev pub bareMonotony : ℕ → Monotony
+bareMonotony n = record { refusal = n; yes = false; violations = 0 }
+
+abbrev pub bareDegeneration : ℕ → Degeneration
+bareDegeneration n = record { refusal = n; yes = false }
+
+abbrev pub bareCount : ℕ → Count
+bareCount n = record { refusal = n; entries = 0 }
+
+abbrev pub barePara : ℕ → Para
+barePara n = record { refusal = n; count = 0; numbers = asRaw noNumbers }
+
+-- And so of each kind: refused, it is that and no more.
+pub sample-refused : {promise : Looked → Type 0} {r : Sample} → Carried asSample promise r → (r .refusal ≡ 0 → ⊥) → r ≡ bareSample (r .refusal)
+sample-refused = bare-refused (λ (x : Sample). x .refusal) bareSample each
+  where
+    each : (l : Looked) → (asSample l .refusal ≡ 0) ⊎ (asSample l ≡ bareSample (asSample l .refusal))
+    each (Looked.At d) = inl refl
+    each (Looked.Refused why) = inr refl
+
+pub position-refused : {promise : Sought → Type 0} {r : Position} → Carried asPosition promise r → (r .refusal ≡ 0 → ⊥) → r ≡ barePosition (r .refusal)
+position-refused = bare-refused (λ (x : Position). x .refusal) barePosition each
+  where
+    each : (l : Sought) → (asPosition l .refusal ≡ 0) ⊎ (asPosition l ≡ barePosition (asPosition l .refusal))
+    each (Sought.At p) = inl refl
+    each (Sought.Refused why) = inr refl
+
+pub code-refused : {promise : Coded → Type 0} {r : Code} → Carried asCode promise r → (r .refusal ≡ 0 → ⊥) → r ≡ bareCode (r .refusal)
+code-refused = bare-refused (λ (x : Code). x .refusal) bareCode each
+  where
+    each : (l : Coded) → (asCode l .refusal ≡ 0) ⊎ (asCode l ≡ bareCode (asCode l .refusal))
+    each (Coded.Value c) = inl refl
+    each (Coded.Refused why) = inr refl
+
+pub real-refused : {promise : Interpolated → Type 0} {r : Real} → Carried asReal promise r → (r .refusal ≡ 0 → ⊥) → r ≡ bareReal (r .refusal)
+real-refused = bare-refused (λ (x : Real). x .refusal) bareReal each
+  where
+    each : (l : Interpolated) → (asReal l .refusal ≡ 0) ⊎ (asReal l ≡ bareReal (asReal l .refusal))
+    each (Interpolated.Value y) = inl refl
+    each (Interpolated.Refused why) = inr refl
+
+pub parametric-refused : {promise : Unified → Type 0} {r : Parametric} → Carried asParametric promise r → (r .refusal ≡ 0 → ⊥) → r ≡ bareParametric (r .refusal)
+parametric-refused = bare-refused (λ (x : Parametric). x .refusal) bareParametric each
+  where
+    each : (l : Unified) → (asParametric l .refusal ≡ 0) ⊎ (asParametric l ≡ bareParametric (asParametric l .refusal))
+    each (Unified.Curve c) = inl refl
+    each (Unified.Refused why) = inr refl
+
+pub monotony-refused : {promise : Monotonic → Type 0} {r : Monotony} → Carried asMonotony promise r → (r .refusal ≡ 0 → ⊥) → r ≡ bareMonotony (r .refusal)
+monotony-refused = bare-refused (λ (x : Monotony). x .refusal) bareMonotony each
+  where
+    each : (l : Monotonic) → (asMonotony l .refusal ≡ 0) ⊎ (asMonotony l ≡ bareMonotony (asMonotony l .refusal))
+    each (Monotonic.Yes v) = inl refl
+    each (Monotonic.No v) = inl refl
+    each (Monotonic.Refused why) = inr refl
+
+pub degeneration-refused : {promise : Degenerated → Type 0} {r : Degeneration} → Carried asDegeneration promise r → (r .refusal ≡ 0 → ⊥) → r ≡ bareDegeneration (r .refusal)
+degeneration-refused = bare-refused (λ (x : Degeneration). x .refusal) bareDegeneration each
+  where
+    each : (l : Degenerated) → (asDegeneration l .refusal ≡ 0) ⊎ (asDegeneration l ≡ bareDegeneration (asDegeneration l .refusal))
+    each Degenerated.Yes = inl refl
+    each Degenerated.No = inl refl
+    each (Degenerated.Refused why) = inr refl
+
+pub count-refused : {promise : Counted → Type 0} {r : Count} → Carried asCount promise r → (r .refusal ≡ 0 → ⊥) → r ≡ bareCount (r .refusal)
+count-refused = bare-refused (λ (x : Count). x .refusal) bareCount each
+  where
+    each : (l : Counted) → (asCount l .refusal ≡ 0) ⊎ (asCount l ≡ bareCount (asCount l .refusal))
+    each (Counted.Entries n) = inl refl
+    each (Counted.Refused why) = inr refl
+
+pub para-refused : {promise : Read → Type 0} {r : Para} → Carried asPara promise r → (r .refusal ≡ 0 → ⊥) → r ≡ barePara (r .refusal)
+para-refused = bare-refused (λ (x : Para). x .refusal) barePara each
+  where
+    each : (l : Read) → (asPara l .refusal ≡ 0) ⊎ (asPara l ≡ barePara (asPara l .refusal))
+    each (Read.Parameters n m) = inl refl
+    each (Read.Refused why) = inr refl
+
+-- The part of a tag too.
+pub part-bare : {tag : RefT (List ℕ)} {r : Part} → PartCarried tag r → (r .refusal ≡ 0 → ⊥) → r ≡ record { refusal = r .refusal; start = 0; len = 0 }
+part-bare c some = bg-part-one c (part-refused (c .kept) some)

@@ -1,0 +1,85 @@
+// The curv tag.
+use crate::answers::number_of_done;
+use curv::Counted;
+use curv::count_entries;
+use curv::entry_bytes;
+use curv::read_curv;
+use curv_writer::write_curv;
+use table::number;
+ghost use mathlib.Core.Path.{_≡_};
+ghost use Rattle.table.specs.Answers.{numberOfDone};
+ghost use Rattle.curv.specs.Promises.{CountPromise, ReadPromise};
+ghost use Rattle.curv_writer.specs.Promises.{WritePromise};
+ghost use Rattle.brassgroat.specs.Carried.{Carried, PartCarried};
+ghost use Rattle.brassgroat.specs.Answers.{asCount};
+
+// How many entries a tag has.
+#[repr(C)]
+pub struct Count {
+    pub refusal: u32,
+    pub entries: usize,
+}
+
+// Which part of a tag its entries' bytes are: a slice does not cross back, so where it starts and how long it is.
+#[repr(C)]
+pub struct Part {
+    pub refusal: u32,
+    pub start: usize,
+    pub len: usize,
+}
+
+pub fn as_count(answer: Counted) -> Count
+    ensures { λ r. ⌜ r ≡ asCount answer ⌝ }
+{
+    match answer {
+        Counted::Entries(entries) => Count {
+            refusal: 0,
+            entries,
+        },
+        Counted::Refused(why) => Count {
+            refusal: number(why),
+            entries: 0,
+        },
+    }
+}
+
+#[no_mangle]
+pub extern "C" fn bg_curv_count(tag: &[u8]) -> Count
+    ensures { λ r. ⌜ Carried asCount (CountPromise (now (tag .entry))) r ⌝ }
+{
+    as_count(count_entries(tag))
+}
+
+#[no_mangle]
+pub extern "C" fn bg_curv_read(tag: &[u8], out: &mut [u16]) -> u32
+    ensures { λ r. ⌜ Carried numberOfDone (λ d. ReadPromise (now (tag .entry)) (now (out .entry)) d (now (out .exit))) r ⌝ }
+{
+    number_of_done(read_curv(tag, out))
+}
+
+#[no_mangle]
+pub extern "C" fn bg_curv_part(tag: &[u8]) -> Part
+    ensures { λ r. ⌜ PartCarried (tag .entry) r ⌝ }
+{
+    let mut refusal: u32 = 0;
+    let part = entry_bytes(tag, &mut refusal);
+    if refusal != 0 {
+        return Part {
+            refusal,
+            start: 0,
+            len: 0,
+        };
+    }
+    Part {
+        refusal: 0,
+        start: 12,
+        len: part.len(),
+    }
+}
+
+#[no_mangle]
+pub extern "C" fn bg_curv_write(table: &[u16], out: &mut [u8]) -> u32
+    ensures { λ r. ⌜ Carried numberOfDone (λ d. WritePromise (now (table .entry)) (now (out .entry)) d (now (out .exit))) r ⌝ }
+{
+    number_of_done(write_curv(table, out))
+}

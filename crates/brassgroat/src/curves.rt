@@ -1,0 +1,31 @@
+// The work on a curve's table.
+use crate::answers::number_of_done;
+use curve::accept;
+use curve::nudge;
+use curve::start;
+use table::Density;
+ghost use lib.ListN.{length};
+ghost use Rattle.table.specs.Answers.{numberOfDone};
+ghost use Rattle.curve.specs.Promises.{sittingOn, StartPromise, AcceptPromise, NudgePromise};
+ghost use Rattle.brassgroat.specs.Carried.{Carried};
+
+#[no_mangle]
+pub extern "C" fn bg_start(table: &mut [u16]) -> u32
+    ensures { λ r. ⌜ Carried numberOfDone (λ d. StartPromise (length (now (table .entry))) (sittingOn (now (table .entry))) d (sittingOn (now (table .exit)))) r ⌝ }
+{
+    number_of_done(start(table))
+}
+
+#[no_mangle]
+pub extern "C" fn bg_accept(table: &[u16]) -> u32
+    ensures { λ r. ⌜ Carried numberOfDone (λ d. AcceptPromise (sittingOn (now (table .entry))) d (sittingOn (now (table .entry)))) r ⌝ }
+{
+    number_of_done(accept(table))
+}
+
+#[no_mangle]
+pub extern "C" fn bg_nudge(table: &mut [u16], index: usize, density: Density) -> u32
+    ensures { λ r. ⌜ Carried numberOfDone (λ d. NudgePromise (sittingOn (now (table .entry))) index density d (sittingOn (now (table .exit)))) r ⌝ }
+{
+    number_of_done(nudge(table, index, density))
+}

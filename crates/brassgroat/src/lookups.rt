@@ -1,0 +1,73 @@
+// Looking up.
+use crate::answers::Sample;
+use crate::answers::as_sample;
+use crate::answers::number_of_done;
+use gamma::Coded;
+use gamma::lut_interp_linear_gamma_impl;
+use lookup::bake;
+use lookup::lut_interp_linear16;
+use lookup::lut_interp_linear16_row;
+use table::Drive;
+use table::number;
+ghost use mathlib.Core.Path.{_≡_};
+ghost use Rattle.table.specs.Answers.{numberOfDone};
+ghost use Rattle.lookup.specs.Promises.{LookupPromise, RowPromise, BakePromise};
+ghost use Rattle.gamma.specs.Promises.{GammaPromise};
+ghost use Rattle.brassgroat.specs.Carried.{Carried};
+ghost use Rattle.brassgroat.specs.Answers.{asSample, asCode};
+
+// The gamma lookup's code.
+#[repr(C)]
+pub struct Code {
+    pub refusal: u32,
+    pub code: u16,
+}
+
+pub fn as_code(answer: Coded) -> Code
+    ensures { λ r. ⌜ r ≡ asCode answer ⌝ }
+{
+    match answer {
+        Coded::Value(code) => Code { refusal: 0, code },
+        Coded::Refused(why) => Code {
+            refusal: number(why),
+            code: 0,
+        },
+    }
+}
+
+#[no_mangle]
+pub extern "C" fn bg_lut_interp_linear16(table: &[u16], position: Drive) -> Sample
+    ensures { λ r. ⌜ Carried asSample (LookupPromise (now (table .entry)) position) r ⌝ }
+{
+    as_sample(lut_interp_linear16(table, position))
+}
+
+#[no_mangle]
+pub extern "C" fn bg_lut_interp_linear16_row(
+    table: &[u16],
+    positions: &[u16],
+    out: &mut [u16],
+) -> u32
+    ensures { λ r. ⌜ Carried numberOfDone (λ d. RowPromise (now (table .entry)) (now (positions .entry)) (now (out .entry)) d (now (out .exit))) r ⌝ }
+{
+    number_of_done(lut_interp_linear16_row(table, positions, out))
+}
+
+#[no_mangle]
+pub extern "C" fn bg_bake(table: &[u16], out: &mut [u16]) -> u32
+    ensures { λ r. ⌜ Carried numberOfDone (λ d. BakePromise (now (table .entry)) (now (out .entry)) d (now (out .exit))) r ⌝ }
+{
+    number_of_done(bake(table, out))
+}
+
+#[no_mangle]
+pub extern "C" fn bg_lut_interp_linear_gamma_impl(
+    table: &[u16],
+    inputs: usize,
+    depth: usize,
+    input: usize,
+) -> Code
+    ensures { λ r. ⌜ Carried asCode (GammaPromise (now (table .entry)) inputs depth input) r ⌝ }
+{
+    as_code(lut_interp_linear_gamma_impl(table, inputs, depth, input))
+}

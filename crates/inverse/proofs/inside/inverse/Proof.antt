@@ -1,0 +1,112 @@
+-- `inverse` meets its contract, way by way: before any search, with r ≤ l, at a hit, and by the f64 steps. Assumes nothing.
+use mathlib.Core.Path.{_∙_, refl, sym}
+use native.Mathlib.Omega.{arith}
+use borrow.Author.Needs.{needs}
+use denote.Ref.{now}
+use Rattle.table.proofs.Sizes.{within-high}
+use Rattle.inverse.proofs.Runs.{zeros-le, tops-le}
+use Rattle.inverse.proofs.Whole.{Begun, begun-ready, at-once, crossed, hit-answer, missed-low, missed-answer}
+use Rattle.inverse.proofs.inside.inverse.Statement.{statement}
+use Rattle.inverse.proofs.inside.inverse.Tie as tie
+
+leading-zeros-requires : tie.Need-leading-zeros-requires
+leading-zeros-requires c κs = search needs
+
+trailing-tops-requires : tie.Need-trailing-tops-requires
+trailing-tops-requires c κs = search needs
+
+zero-at-once-requires : tie.Need-zero-at-once-requires
+zero-at-once-requires c κs = search needs
+
+returns : tie.Need-returns
+returns c =
+    let e = c .before in
+    let s = e .before .before .before .before in
+    at-once
+    (record {
+      zeros = e .before .before .leading-zeros .ensures;
+      tops = e .before .trailing-tops .ensures;
+      left = refl;
+      right = refl;
+    }) (s .pre) (s .args .v) (e .zero-at-once .ensures) (c .if1 .taken)
+
+first-left-requires : tie.Need-first-left-requires
+first-left-requires c κs =
+    let s = c .before .before .before .before .before in
+    omega (arith, zeros-le (now (s .args .table)), c .before .before .before .leading-zeros .ensures, within-high 1 65536 _ (s .pre))
+
+first-right-requires : tie.Need-first-right-requires
+first-right-requires c κs =
+    let s = c .before .before .before .before .before .before in
+    omega (arith, tops-le (now (s .args .table)), c .before .before .before .trailing-tops .ensures, within-high 1 65536 _ (s .pre))
+
+-- what the calls before the search gave
+begun : (c : tie.After-first-right) → Begun (now (c .before .before .before .before .before .before .before .args .table)) (c .before .before .before .before .before .leading-zeros .result) (c .before .before .before .before .trailing-tops .result) (c .before .first-left .result) (c .first-right .result)
+begun c = record {
+  zeros = c .before .before .before .before .before .leading-zeros .ensures;
+  tops = c .before .before .before .before .trailing-tops .ensures;
+  left = c .before .first-left .ensures;
+  right = c .first-right .ensures;
+}
+
+returns-2 : tie.Need-returns-2
+returns-2 c =
+    let e = c .before .before .before in
+    crossed (begun (c .before)) (e .before .before .before .before .before .pre) _ (e .before .zero-at-once .ensures) (e .if1 .left) (c .if2 .taken)
+
+search-requires : tie.Need-search-requires
+search-requires c κs =
+    let s = c .before .before .before .before .before .before .before .before in
+    (s .pre, begun-ready (begun (c .before)) (s .pre) (s .args .v))
+
+enum-known-p : tie.Need-enum-known-p
+enum-known-p c = search needs
+
+enum-known-x : tie.Need-enum-known-x
+enum-known-x c = search needs
+
+tail-requires : tie.Need-tail-requires
+tail-requires c κs =
+    let f = c .before .before .before in
+    let e = f .before .before .before .before in
+    let s = e .before .before .before .before .before in (
+      s .pre,
+      missed-low (begun (f .before .before)) (s .pre) (s .args .v) (e .before .zero-at-once .ensures) (e .if1 .left) (c .before .x .given .0 .0) (f .before .if2 .left)
+          (sym (f .search .ensures) ∙ c .before .x .given .1),
+    )
+
+returns-3 : tie.Need-returns-3
+returns-3 c =
+    let f = c .before .before .before in
+    let e = f .before .before .before .before in
+    let s = e .before .before .before .before .before in
+    hit-answer (begun (f .before .before)) (s .pre) (s .args .v) (e .before .zero-at-once .ensures) (e .if1 .left) (c .before .p .given .0 .0) (f .before .if2 .left)
+    (sym (f .search .ensures) ∙ c .before .p .given .1)
+
+returns-4 : tie.Need-returns-4
+returns-4 c =
+    let k = c .before in
+    let f = k .before .before .before in
+    let e = f .before .before .before .before in
+    let s = e .before .before .before .before .before in
+    c .tail .ensures
+    ∙ missed-answer (begun (f .before .before)) (s .pre) (s .args .v) (e .before .zero-at-once .ensures) (e .if1 .left) (k .before .x .given .0 .0) (f .before .if2 .left)
+    (sym (f .search .ensures) ∙ k .before .x .given .1)
+
+pub inverse-spec : {M : Type 1} → statement M
+inverse-spec =
+    tie.close
+    (tie.spec
+    leading-zeros-requires
+    trailing-tops-requires
+    zero-at-once-requires
+    returns
+    first-left-requires
+    first-right-requires
+    returns-2
+    search-requires
+    enum-known-p
+    enum-known-x
+    tail-requires
+    returns-3
+    returns-4)

@@ -1,0 +1,163 @@
+/* The counts, the lent buffers, and the list of subjects. */
+#define _DEFAULT_SOURCE
+#include "check.h"
+
+#include <stdio.h>
+#include <stdlib.h>
+#include <string.h>
+#include <sys/mman.h>
+#include <unistd.h>
+
+enum { MOST = 16, GUARD = 64 };
+
+/* A lent buffer: whole pages from `room` on, of which the last is shut, and the buffer ends where that begins. */
+struct lent {
+    unsigned char *room;
+    size_t pages;
+    unsigned char *at;
+    size_t bytes;
+    unsigned char *held;
+};
+
+static struct lent lents[MOST];
+static size_t lent_count;
+static unsigned long expected, failed;
+
+void expect(bool holds, const char *what, const char *file, int line)
+{
+    expected++;
+    if (!holds) {
+        failed++;
+        printf("%s:%d: not so: %s\n", file, line, what);
+    }
+}
+
+static void stop(const char *why)
+{
+    fprintf(stderr, "face: %s\n", why);
+    exit(2);
+}
+
+static unsigned char guard_byte(size_t i)
+{
+    return (unsigned char)(0xa5 ^ i);
+}
+
+void *lend(size_t count, size_t size)
+{
+    size_t page = (size_t)sysconf(_SC_PAGESIZE), bytes = count * size;
+    struct lent *l = &lents[lent_count];
+    if (count == 0)
+        return NULL;
+    if (lent_count == MOST)
+        stop("too many buffers lent at once");
+    l->bytes = bytes;
+    l->pages = (GUARD + bytes + page - 1) / page + 1;
+    l->room = mmap(NULL, l->pages * page, PROT_READ | PROT_WRITE, MAP_PRIVATE | MAP_ANONYMOUS, -1, 0);
+    if (l->room == MAP_FAILED || mprotect(l->room + (l->pages - 1) * page, page, PROT_NONE) != 0)
+        stop("no memory");
+    l->at = l->room + (l->pages - 1) * page - bytes;
+    l->held = malloc(bytes);
+    if (l->held == NULL)
+        stop("no memory");
+    for (size_t i = 0; i < GUARD; i++)
+        l->at[-1 - (ptrdiff_t)i] = guard_byte(i);
+    for (size_t i = 0; i < bytes; i++)
+        l->at[i] = (unsigned char)(i * 29 + 7);
+    lent_count++;
+    return l->at;
+}
+
+void *lend_copy(const void *from, size_t count, size_t size)
+{
+    return memcpy(lend(count, size), from, count * size);
+}
+
+uint16_t *lend_same(uint16_t entry, size_t count)
+{
+    uint16_t *table = LEND(uint16_t, count);
+    for (size_t i = 0; i < count; i++)
+        table[i] = entry;
+    return table;
+}
+
+void settle(void)
+{
+    for (size_t i = 0; i < lent_count; i++)
+        memcpy(lents[i].held, lents[i].at, lents[i].bytes);
+}
+
+bool kept_but(const void *out)
+{
+    for (size_t i = 0; i < lent_count; i++) {
+        for (size_t k = 0; k < GUARD; k++)
+            if (lents[i].at[-1 - (ptrdiff_t)k] != guard_byte(k))
+                return false;
+        if (lents[i].at != out && memcmp(lents[i].held, lents[i].at, lents[i].bytes) != 0)
+            return false;
+    }
+    return true;
+}
+
+void give_back(void)
+{
+    while (lent_count > 0) {
+        struct lent *l = &lents[--lent_count];
+        munmap(l->room, l->pages * (size_t)sysconf(_SC_PAGESIZE));
+        free(l->held);
+    }
+}
+
+uint32_t bits_of(float x)
+{
+    uint32_t bits;
+    memcpy(&bits, &x, sizeof bits);
+    return bits;
+}
+
+bg_drive drive(uint16_t value)
+{
+    bg_drive d = {value};
+    return d;
+}
+
+bg_density density(uint16_t value)
+{
+    bg_density d = {value};
+    return d;
+}
+
+bool curve_is(bg_parametric p, float g, float a, float b, float c, float d, float e, float f)
+{
+    return p.refusal == 0 && p.curve.g == g && p.curve.a == a && p.curve.b == b && p.curve.c == c && p.curve.d == d &&
+           p.curve.e == e && p.curve.f == f;
+}
+
+bool curve_refused(bg_parametric p, uint32_t refusal)
+{
+    static const bg_curve none;
+    return p.refusal == refusal && memcmp(&p.curve, &none, sizeof none) == 0;
+}
+
+static void subject(const char *name, void (*run)(void))
+{
+    unsigned long before = expected, failed_before = failed;
+    run();
+    give_back();
+    printf("face: %s: %lu expectations, %lu failed\n", name, expected - before, failed - failed_before);
+}
+
+int main(void)
+{
+    subject("looking up", lookups);
+    subject("working on a curve", curves);
+    subject("from density back to drive", inverses);
+    subject("floats", floats);
+    subject("parametric curves", parametrics);
+    subject("verdicts", verdicts);
+    subject("the house curve", house_curve);
+    subject("curv tags", curv_tags);
+    subject("para tags", para_tags);
+    printf("face: %lu expectations, %lu failed\n", expected, failed);
+    return failed == 0 ? 0 : 1;
+}

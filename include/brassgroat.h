@@ -1,0 +1,232 @@
+/*
+ * Brassgroat: the tone curve part of a photo lab's grey box. The face for C and C++.
+ *
+ * Every call is proved to keep its promise (crates/brassgroat, and the crate that each call names). Link
+ * target/staticlib/libbrassgroat.a, which `rt staticlib brassgroat` writes, for x86-64 Linux; it needs no other library.
+ *
+ * What holds for every call:
+ *
+ * - It takes any input at all. It answers, or it refuses with one of the thirteen numbers of `enum bg_refusal`. A refused
+ *   answer has 0 in every other place, and a refused call has changed no buffer. Where several refusals apply, the one that
+ *   is listed first at the call is given.
+ * - A buffer is a pointer and a count of its ELEMENTS, not bytes. The pointer must be aligned for its type and good for that
+ *   many elements; it may be null only where the count is 0. An output buffer must not overlap another buffer of the same
+ *   call; buffers that are only read may overlap each other. This much C's caller must see to: nothing else can go wrong.
+ * - It keeps no state, allocates nothing, and writes to its output buffers alone. Threads may call it at will.
+ * - A NaN among the answers may have any NaN's bits.
+ *
+ * A position, the input side of a curve, is a drive; a sample, the output side, is a density. Both are 16 bits wide. They are
+ * two types, so that neither is written in the other's column: looking up takes a drive and gives a density, and both inverses
+ * take a density and give a drive. Tables hold densities. A table has 1 to 65,536 entries.
+ */
+#ifndef BRASSGROAT_H
+#define BRASSGROAT_H
+
+#include <stdbool.h>
+#include <stddef.h>
+#include <stdint.h>
+
+#ifdef __cplusplus
+extern "C" {
+#endif
+
+/* Why a call is refused; 0 is no refusal. */
+enum bg_refusal {
+    BG_DONE = 0,
+    BG_TABLE_LENGTH = 1,        /* the table's length is 0 or above 65,536 (where a call says so: only above; below 2 or above) */
+    BG_NOT_NONDECREASING = 2,   /* an entry of the table is below the one before it */
+    BG_INDEX_BEYOND = 3,        /* the index is beyond the table, or the gamma lookup's input is at or above `inputs` */
+    BG_OUTSIDE_NEIGHBOURS = 4,  /* the nudged entry would be below its left or above its right neighbour */
+    BG_ABOVE_LAST = 5,          /* the density is above the last entry: no position reaches it */
+    BG_OUTPUT_LENGTH = 6,       /* the output buffer is not exactly as long as needed */
+    BG_PARAMETER_COUNT = 7,     /* a parametric curve has 1, 3, 4, 5 or 7 parameters */
+    BG_TAG_LENGTH = 8,          /* the tag has fewer than 12 bytes, or the wrong total length */
+    BG_WRONG_SIGNATURE = 9,     /* the tag has another signature */
+    BG_RESERVED_NOT_ZERO = 10,  /* a reserved byte of the tag is not zero */
+    BG_FUNCTION_TYPE = 11,      /* the function type is above 4 */
+    BG_OUTSIDE_RANGE = 12,      /* `inputs`, `depth`, or the length of an inverted or a passthrough table is outside its range */
+    BG_OUTSIDE_UNIT = 13        /* the input of bg_lut_interp_linear is a NaN, below 0 or above 1 */
+};
+
+/* A position, and a sample. */
+typedef struct { uint16_t value; } bg_drive;
+typedef struct { uint16_t value; } bg_density;
+
+/* The answers. Each begins with the refusal's number, 0 where the call is granted. */
+typedef struct { uint32_t refusal; bg_density density; } bg_sample;
+typedef struct { uint32_t refusal; bg_drive drive; } bg_position;
+typedef struct { uint32_t refusal; uint16_t code; } bg_code;
+typedef struct { uint32_t refusal; float value; } bg_real;
+typedef struct { uint32_t refusal; bool yes; size_t violations; } bg_monotony;
+typedef struct { uint32_t refusal; bool yes; } bg_degeneration;
+typedef struct { uint32_t refusal; size_t entries; } bg_count;
+typedef struct { uint32_t refusal; size_t start; size_t len; } bg_part;
+
+/* A parametric curve: (aX + b)^g + e from X = d on, cX + f below. */
+typedef struct { float g, a, b, c, d, e, f; } bg_curve;
+typedef struct { uint32_t refusal; bg_curve curve; } bg_parametric;
+
+/* The raw signed 16.16 numbers of a para tag, in its order; those that its type does not use are 0. */
+typedef struct { int32_t g, a, b, c, d, e, f; } bg_raw;
+typedef struct { uint32_t refusal; size_t count; bg_raw numbers; } bg_para;
+
+/* ---- Looking up (crates lookup and gamma) ---- */
+
+/* The density at a position, by linear interpolation rounded down. Refused: 1. */
+bg_sample bg_lut_interp_linear16(const uint16_t *table, size_t table_len, bg_drive position);
+
+/*
+ * The densities at a row of drives: out[i] is bg_lut_interp_linear16 at positions[i]. One load for each where the table has
+ * 65,536 entries. Refused: 1; 6 where out_len is not positions_len.
+ */
+uint32_t bg_lut_interp_linear16_row(const uint16_t *table, size_t table_len,
+                                    const uint16_t *positions, size_t positions_len,
+                                    uint16_t *out, size_t out_len);
+
+/*
+ * The table's densities at every one of the 65,536 positions. Looking up in the baked table is looking up in the table.
+ * Refused: 1; 6 where out_len is not 65,536.
+ */
+uint32_t bg_bake(const uint16_t *table, size_t table_len, uint16_t *out, size_t out_len);
+
+/*
+ * The integer gamma lookup: of `inputs` inputs from 0 on, the one given, as a code of `depth` bits. The code may be 2^depth.
+ * Refused: 1; 12 where `inputs` is outside 2 to 65,536 or `depth` outside 1 to 16; 3 where `input` is not below `inputs`.
+ */
+bg_code bg_lut_interp_linear_gamma_impl(const uint16_t *table, size_t table_len, size_t inputs, size_t depth, size_t input);
+
+/* ---- Working on a curve (crate curve) ---- */
+
+/* Makes the table the straight curve from 0 to 65535. Refused: 1 where table_len is below 2 or above 65,536. */
+uint32_t bg_start(uint16_t *table, size_t table_len);
+
+/* Whether the table may be nudged and read backwards: granted, it is nondecreasing. Refused: 1; 2. */
+uint32_t bg_accept(const uint16_t *table, size_t table_len);
+
+/* Sets one entry, where the density fits between its neighbours, and changes no other. Refused: 1; 3; 2; 4. */
+uint32_t bg_nudge(uint16_t *table, size_t table_len, size_t index, bg_density density);
+
+/* ---- From density back to drive (crates least, inverse and invert) ---- */
+
+/* The smallest position whose density is at least the one given. Refused: 1; 2; 5 where no position reaches it. */
+bg_position bg_least_input(const uint16_t *table, size_t table_len, bg_density density);
+
+/*
+ * The least inputs of a row of densities: out[i] is bg_least_input of densities[i], or 65,536, which is no position, where that
+ * would be refused with 5. Refused: 1; 6 where out_len is not densities_len; 2.
+ */
+uint32_t bg_least_input_row(const uint16_t *table, size_t table_len,
+                            const uint16_t *densities, size_t densities_len,
+                            uint32_t *out, size_t out_len);
+
+/* moxcms's own inverse, step by step. It is NOT the least position: of 0 in [0, 100, 65535] it is 255. Refused: 1. */
+bg_position bg_lut_inverse_interp16(const uint16_t *table, size_t table_len, bg_density density);
+
+/*
+ * The table inverted by bg_lut_inverse_interp16: out[i] is the drive for the density i * (65535 / (out_len - 1)), worked in
+ * doubles and rounded. Refused: 1; 12 where out_len is outside 2 to 65,536.
+ */
+uint32_t bg_invert_lut(const uint16_t *table, size_t table_len, uint16_t *out, size_t out_len);
+
+/* ---- Floats (crates interp and rounding): IEEE 754, one rounding for each operation ---- */
+
+/* The float at x in a table of floats; x above 1 or a NaN reads as 1, below 0 as 0. Refused: 1. */
+bg_real bg_lut_interp_linear_float(const float *table, size_t table_len, float x);
+
+/*
+ * The float, where 1 stands for 65535, at x from 0 to 1 in a table of 16-bit entries. An empty table answers x.
+ * Refused: 1 where table_len is above 65,536; 13 where x is a NaN, below 0 or above 1.
+ */
+bg_real bg_lut_interp_linear(const uint16_t *table, size_t table_len, double x);
+
+/*
+ * The table that passes its input through: out[i] is i * (1 / (out_len - 1)), worked in doubles, as the nearest float.
+ * Refused: 12 where out_len is outside 2 to 65,536.
+ */
+uint32_t bg_passthrough_table_impl(float *out, size_t out_len);
+
+/* The float nearest to x, a tie to the even one. Never refused. */
+float bg_nearest_f64_to_f32(double x);
+
+/* An unsigned 8.8 number: x / 256, exactly. Never refused. */
+float bg_u8_fixed_8number_to_float(uint16_t x);
+
+/* A signed 16.16 number: the float nearest to x / 65536, a tie to the even one. Never refused. */
+float bg_s15_fixed16_number_to_float(int32_t x);
+
+/* ---- Parametric curves (crate parametric) ---- */
+
+/* The curve unified from 1, 3, 4, 5 or 7 parameters in the order g a b c d e f (of four: g a b, and e = f). Refused: 7. */
+bg_parametric bg_parametric_curve_new(const float *params, size_t params_len);
+
+/*
+ * Whether no two parameters at one place are further apart than 1e-4f, over the shorter length; a NaN difference counts as close.
+ * Never refused.
+ */
+bool bg_compare_parametric(const float *src, size_t src_len, const float *dst, size_t dst_len);
+
+/* ---- Verdicts (crate matan) ---- */
+
+/*
+ * Whether fewer than one entry in twenty steps against the direction, and how many do: falls where `rising`, else rises.
+ * Yes below two entries. Refused: 1 where table_len is above 65,536.
+ */
+bg_monotony bg_is_curve_monotonic(const uint16_t *table, size_t table_len, bool rising);
+
+/*
+ * Whether the run equal to the first entry or the run equal to the last has at least 20 entries. No below two entries.
+ * Refused: 1 where table_len is above 65,536.
+ */
+bg_degeneration bg_is_curve_degenerated(const uint16_t *table, size_t table_len);
+
+/* ---- The house curve, 1,024 entries, gamma 2.5 (crate house) ---- */
+
+/* One entry. Whoever wants many fills a buffer, which costs no more than one of these. Refused: 3 where index is above 1,023. */
+bg_sample bg_house_entry(size_t index);
+
+/* All entries. Refused: 6 where out_len is not 1,024. */
+uint32_t bg_house_fill(uint16_t *out, size_t out_len);
+
+/* ---- ICC tags (crates curv, curv_writer, para and para_writer); tag_len counts bytes ---- */
+
+/*
+ * How many entries a curv tag has. Refused: 8 where the tag has fewer than 12 bytes; 9; 10; 1 where the count is above 65,536;
+ * 8 where the tag is not exactly 12 + 2 * count bytes long.
+ */
+bg_count bg_curv_count(const uint8_t *tag, size_t tag_len);
+
+/* Reads a curv tag's entries. Refused: as bg_curv_count; 6 where out_len is not the count. */
+uint32_t bg_curv_read(const uint8_t *tag, size_t tag_len, uint16_t *out, size_t out_len);
+
+/*
+ * Where a curv tag's entries lie: they are the `len` bytes at tag + start, big-endian, and no copy. Refused: as bg_curv_count.
+ * A granted part may be empty, so look at the number.
+ */
+bg_part bg_curv_part(const uint8_t *tag, size_t tag_len);
+
+/*
+ * Writes a table, which may be empty, as a curv tag. Refused: 1 where table_len is above 65,536; 6 where out_len is not
+ * 12 + 2 * table_len.
+ */
+uint32_t bg_curv_write(const uint16_t *table, size_t table_len, uint8_t *out, size_t out_len);
+
+/*
+ * Reads a para tag: how many numbers it has (1, 3, 4, 5 or 7), and seven. Refused: 8 where the tag has fewer than 12 bytes; 9; 10;
+ * 11; 8 where the tag is not exactly 12 + 4 * count bytes long.
+ */
+bg_para bg_para_read(const uint8_t *tag, size_t tag_len);
+
+/* Reads a para tag as a curve, each raw number as bg_s15_fixed16_number_to_float has it. Refused: as bg_para_read. */
+bg_parametric bg_para_curve(const uint8_t *tag, size_t tag_len);
+
+/*
+ * Writes a para tag of function type 0 to 4, which has 1, 3, 4, 5 or 7 numbers; the others of `numbers` are ignored.
+ * Refused: 11 where the type is above 4; 6 where out_len is not 12 + 4 * that count.
+ */
+uint32_t bg_para_write(size_t function_type, bg_raw numbers, uint8_t *out, size_t out_len);
+
+#ifdef __cplusplus
+}
+#endif
+
+#endif
