@@ -1,17 +1,17 @@
 // Which part of the program answers a request.
 use crate::changes::change_table;
 use crate::changes::change_tag;
-use crate::pictures::svg;
 use crate::plain::answer_plain;
-use crate::requests::Request;
 use bench_io::Streams;
 use bench_kept::After;
 use bench_kept::Kept;
 use bench_kept::bytes;
 use bench_kept::entries;
 use bench_kept::values;
+use bench_pictures::svg;
 use bench_questions::Question;
 use bench_questions::ask;
+use bench_requests::Request;
 use bench_words::Got;
 use bench_words::Place;
 use bench_words::Problem;

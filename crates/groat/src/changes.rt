@@ -1,10 +1,10 @@
 // Requests that give the table or the tag anew.
-use crate::requests::Request;
 use bench_io::Streams;
 use bench_kept::After;
 use bench_kept::Kept;
 use bench_kept::bytes;
 use bench_kept::entries;
+use bench_requests::Request;
 use bench_words::Problem;
 use bench_words::ends_line;
 use bench_words::put_problem;

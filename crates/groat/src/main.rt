@@ -2,7 +2,6 @@
 // docs/GROAT.md is its language.
 use crate::answers::Answered;
 use crate::answers::answer;
-use crate::requests::request_named;
 use bench_io::INPUT_END;
 use bench_io::Streams;
 use bench_io::advance;
@@ -10,16 +9,14 @@ use bench_io::flush;
 use bench_io::opened;
 use bench_io::put_byte;
 use bench_kept::Kept;
+use bench_requests::request_named;
 use bench_words::next_line;
 use bench_words::read_word;
 use bench_words::skip_spaces;
 
 mod answers;
 mod changes;
-mod help;
-mod pictures;
 mod plain;
-mod requests;
 
 // Whether a line that begins so gets no answer: it is empty, or a comment.
 fn is_silent(now: u16) -> bool {

@@ -1,11 +1,11 @@
 // Requests that are one word, and change nothing.
-use crate::help::put_help;
-use crate::pictures::plot;
-use crate::requests::Request;
 use bench_answers::put_bytes;
 use bench_answers::put_done;
 use bench_answers::put_shorts;
 use bench_io::Streams;
+use bench_pictures::plot;
+use bench_requests::Request;
+use bench_requests::put_help;
 use bench_words::Problem;
 use bench_words::ends_line;
 use bench_words::put_problem;
