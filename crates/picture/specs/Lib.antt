@@ -1,7 +1,4 @@
--- `Place`: where a drive and a density are drawn. `Reach`: how low and how high a curve goes over a span of drives. `Plot`: what stands in
--- a column of the plot at a row. `Digits`: numbers in decimal digits.
-pub mod Place
-pub mod Reach
+-- `Plot`: what stands in a column of the plot at a row. `Svg`: how many pieces the svg has. `Digits`: numbers in decimal digits. `Promises`: the lengths that are promised.
 pub mod Plot
 pub mod Svg
 pub mod Digits

@@ -4,12 +4,12 @@
 // asks for. Where the curve leaves the densities at a span's two ends, the points of its lowest and of its highest density stand between them, so that no spike
 // is lost. A table of at most 64 entries has a ring at each entry too.
 use crate::digits;
-use crate::place::across;
-use crate::place::density_at;
-use crate::place::down;
-use crate::reach::Reach;
-use crate::reach::reach_over;
 use curve::inside::ramp;
+use placing::inside::Reach;
+use placing::inside::reach_over;
+use placing::place::across;
+use placing::place::density_at;
+use placing::place::down;
 use table::Density;
 use table::Drive;
 use table::inside::wide;

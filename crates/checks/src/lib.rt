@@ -1,0 +1,4 @@
+// What the programs of the gate check answers with: answers as numbers, checks counted, and slices handled with no condition.
+pub mod answers;
+pub mod lists;
+pub mod tally;

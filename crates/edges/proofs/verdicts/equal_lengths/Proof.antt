@@ -1,0 +1,46 @@
+-- `equal_lengths` is safe and ends: the measure is what is left of the range. Assumes nothing.
+use Prim.Native.Nat.{_-_}
+use native.Mathlib.Omega.{arith}
+use Rattle.edges.proofs.verdicts.equal_lengths.Statement.{statement}
+use Rattle.edges.proofs.verdicts.equal_lengths.Tie as tie
+
+abbrev Inv-loop : tie.InvT-loop
+Inv-loop tally₀ table from end yes' n₀ tally n = Unit {0}
+
+abbrev μ-loop : tie.MeasureT-loop
+μ-loop tally₀ table from end yes' n₀ tally n = end - n
+
+loop-holds : tie.Need-loop-holds Inv-loop μ-loop
+loop-holds c = tt
+
+first-entries-requires : tie.Need-first-entries-requires Inv-loop μ-loop
+first-entries-requires c κs = tt
+
+degenerate-requires : tie.Need-degenerate-requires Inv-loop μ-loop
+degenerate-requires c κs = tt
+
+add-n : tie.Need-add-n Inv-loop μ-loop
+add-n c = omega arith
+
+loop-less : tie.Need-loop-less Inv-loop μ-loop
+loop-less c = omega arith
+
+loop-again : tie.Need-loop-again Inv-loop μ-loop
+loop-again c = tt
+
+returns : tie.Need-returns Inv-loop μ-loop
+returns c = tt
+
+pub equal-lengths-spec : {M : Type 1} → statement M
+equal-lengths-spec =
+    tie.close
+    (tie.spec
+    Inv-loop
+    μ-loop
+    loop-holds
+    first-entries-requires
+    degenerate-requires
+    add-n
+    loop-less
+    loop-again
+    returns)

@@ -1,0 +1,52 @@
+-- `fill_falls` is safe and ends: the measure is what is left of the range, and the invariant that the slice has the length it had. Assumes nothing.
+use mathlib.Core.Path.{_≡_, refl}
+use lib.ListN.{length}
+use Prim.Native.Nat.{_-_}
+use native.Mathlib.Omega.{arith}
+use Rattle.edges.proofs.verdicts.fill_falls.Statement.{statement}
+use Rattle.edges.proofs.verdicts.fill_falls.Tie as tie
+
+abbrev Inv-loop : tie.InvT-loop
+Inv-loop table₀ k i₀ i-end table i = length table ≡ length table₀
+
+abbrev μ-loop : tie.MeasureT-loop
+μ-loop table₀ k i₀ i-end table i = i-end - i
+
+loop-holds : tie.Need-loop-holds Inv-loop μ-loop
+loop-holds c = refl
+
+fall-entry-requires : tie.Need-fall-entry-requires Inv-loop μ-loop
+fall-entry-requires c κs = tt
+
+put-entry-requires : tie.Need-put-entry-requires Inv-loop μ-loop
+put-entry-requires c κs = tt
+
+add-i : tie.Need-add-i Inv-loop μ-loop
+add-i c = omega arith
+
+loop-less : tie.Need-loop-less Inv-loop μ-loop
+loop-less c = omega arith
+
+loop-again : tie.Need-loop-again Inv-loop μ-loop
+loop-again c = omega arith
+
+same-length : tie.Need-same-length Inv-loop μ-loop
+same-length c = omega arith
+
+returns : tie.Need-returns Inv-loop μ-loop
+returns c = tt
+
+pub fill-falls-spec : {M : Type 1} → statement M
+fill-falls-spec =
+    tie.close
+    (tie.spec
+    Inv-loop
+    μ-loop
+    loop-holds
+    fall-entry-requires
+    put-entry-requires
+    add-i
+    loop-less
+    loop-again
+    same-length
+    returns)

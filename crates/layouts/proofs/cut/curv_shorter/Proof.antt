@@ -1,0 +1,32 @@
+-- `curv_shorter` is safe and ends: the measure is what is left of the range. Assumes nothing.
+use Prim.Native.Nat.{_-_}
+use native.Mathlib.Omega.{arith}
+use Rattle.layouts.proofs.cut.curv_shorter.Statement.{statement}
+use Rattle.layouts.proofs.cut.curv_shorter.Tie as tie
+
+abbrev Inv-loop : tie.InvT-loop
+Inv-loop tally₀ tag n₀ n-end tally n = Unit {0}
+
+abbrev μ-loop : tie.MeasureT-loop
+μ-loop tally₀ tag n₀ n-end tally n = n-end - n
+
+loop-holds : tie.Need-loop-holds Inv-loop μ-loop
+loop-holds c = tt
+
+curv-cut-requires : tie.Need-curv-cut-requires Inv-loop μ-loop
+curv-cut-requires c κs = tt
+
+add-n : tie.Need-add-n Inv-loop μ-loop
+add-n c = omega arith
+
+loop-less : tie.Need-loop-less Inv-loop μ-loop
+loop-less c = omega arith
+
+loop-again : tie.Need-loop-again Inv-loop μ-loop
+loop-again c = tt
+
+returns : tie.Need-returns Inv-loop μ-loop
+returns c = tt
+
+pub curv-shorter-spec : {M : Type 1} → statement M
+curv-shorter-spec = tie.close (tie.spec Inv-loop μ-loop loop-holds curv-cut-requires add-n loop-less loop-again returns)

@@ -1,0 +1,20 @@
+-- `widened` meets its contract, case by case. Assumes nothing.
+use borrow.Author.Tests.{lt-ltb, le-ltb}
+use Rattle.placing.specs.Reach.{widenedBy}
+use Rattle.placing.proofs.inside.widened.Statement.{statement}
+use Rattle.placing.proofs.inside.widened.Tie as tie
+
+returns : tie.Need-returns
+unfolding widenedBy
+returns c = simp (lt-ltb _ _ (c .if1 .taken))
+
+returns-2 : tie.Need-returns-2
+unfolding widenedBy
+returns-2 c = simp (le-ltb _ _ (c .before .before .before .if1 .left), lt-ltb _ _ (c .if2 .taken))
+
+returns-3 : tie.Need-returns-3
+unfolding widenedBy
+returns-3 c = simp (le-ltb _ _ (c .before .before .before .if1 .left), le-ltb _ _ (c .if2 .left))
+
+pub widened-spec : {M : Type 1} → statement M
+widened-spec = tie.close (tie.spec returns returns-2 returns-3)
