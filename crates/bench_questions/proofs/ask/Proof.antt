@@ -1,3 +1,4 @@
+-- `ask` is safe and ends: nothing has to hold from turn to turn, and the measure is what is left. Assumes nothing.
 use borrow.Author.Needs.{needs}
 use Rattle.bench_questions.proofs.ask.Statement.{statement}
 use Rattle.bench_questions.proofs.ask.Tie as tie

@@ -1,3 +1,4 @@
+-- `put_row_items` is safe and ends: nothing has to hold from turn to turn, and the measure is what is left. Assumes nothing.
 use Prim.Native.Nat.{_-_}
 use borrow.Author.Needs.{needs}
 use Rattle.bench_questions.proofs.put_row_items.Statement.{statement}

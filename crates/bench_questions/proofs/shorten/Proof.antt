@@ -1,3 +1,4 @@
+-- `shorten` is safe and ends: nothing has to hold from turn to turn, and the measure is what is left. Assumes nothing.
 use Prim.Native.Nat.{_-_}
 use lib.ListN.{length}
 use borrow.Author.Needs.{needs}

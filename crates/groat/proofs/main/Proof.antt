@@ -1,3 +1,4 @@
+-- `main` is safe and ends: nothing has to hold from turn to turn, and the measure is what is left. Assumes nothing.
 use borrow.Author.Needs.{needs}
 use Rattle.groat.proofs.main.Statement.{statement}
 use Rattle.groat.proofs.main.Tie as tie

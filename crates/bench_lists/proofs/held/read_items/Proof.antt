@@ -1,3 +1,4 @@
+-- `read_items` is safe and ends: nothing has to hold from turn to turn, and the measure is what is left. Assumes nothing.
 use borrow.Author.Needs.{needs}
 use Rattle.bench_lists.proofs.held.read_items.Statement.{statement}
 use Rattle.bench_lists.proofs.held.read_items.Tie as tie

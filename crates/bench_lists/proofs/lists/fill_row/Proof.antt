@@ -1,3 +1,4 @@
+-- `fill_row` is safe and ends: nothing has to hold from turn to turn, and the measure is what is left. Assumes nothing.
 use borrow.Author.Needs.{needs}
 use Rattle.bench_lists.proofs.lists.fill_row.Statement.{statement}
 use Rattle.bench_lists.proofs.lists.fill_row.Tie as tie

@@ -1,3 +1,4 @@
+-- `read_natural` is safe and ends: nothing has to hold from turn to turn, and the measure is what is left. Assumes nothing.
 use borrow.Author.Needs.{needs}
 use Rattle.bench_words.proofs.numbers.read_natural.Statement.{statement}
 use Rattle.bench_words.proofs.numbers.read_natural.Tie as tie

@@ -1,3 +1,4 @@
+-- `pass_line` is safe and ends: nothing has to hold from turn to turn, and the measure is what is left. Assumes nothing.
 use borrow.Author.Needs.{needs}
 use Rattle.bench_words.proofs.words.pass_line.Statement.{statement}
 use Rattle.bench_words.proofs.words.pass_line.Tie as tie

@@ -1,3 +1,4 @@
+-- `read_word` is safe and ends: nothing has to hold from turn to turn, and the measure is what is left. Assumes nothing.
 use Prim.Native.Nat.{_-_}
 use borrow.Author.Needs.{needs}
 use Rattle.bench_words.proofs.words.read_word.Statement.{statement}

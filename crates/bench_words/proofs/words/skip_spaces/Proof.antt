@@ -1,3 +1,4 @@
+-- `skip_spaces` is safe and ends: nothing has to hold from turn to turn, and the measure is what is left. Assumes nothing.
 use borrow.Author.Needs.{needs}
 use Rattle.bench_words.proofs.words.skip_spaces.Statement.{statement}
 use Rattle.bench_words.proofs.words.skip_spaces.Tie as tie
