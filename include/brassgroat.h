@@ -12,7 +12,8 @@
  * - A buffer is a pointer and a count of its ELEMENTS, not bytes. The pointer must be aligned for its type and good for that
  *   many elements; it may be null only where the count is 0. An output buffer must not overlap another buffer of the same
  *   call; buffers that are only read may overlap each other. This much C's caller must see to: nothing else can go wrong.
- * - It keeps no state, allocates nothing, and writes to its output buffers alone. Threads may call it at will.
+ * - It keeps no state, allocates nothing, and writes to its output buffers alone. Threads may call it at will, as long as no buffer that
+ *   one call writes is used by another.
  * - A NaN among the answers may have any NaN's bits.
  *
  * A position, the input side of a curve, is a drive; a sample, the output side, is a density. Both are 16 bits wide. They are
