@@ -94,6 +94,9 @@ fn make(name: &mut [u8], n: usize) -> i32 {
 
 // Makes a file in the directory of a path, under a name of its own that is put into a lent buffer.
 pub fn begin(path: &[u8; 4096], n: u64, name: &mut [u8; 4096]) -> Draft {
+    if n >= 4096 {
+        return Draft { fd: -1, name: 0 };
+    }
     let place = text(path, n);
     let before = directory(place);
     write_at(name, 0, place);

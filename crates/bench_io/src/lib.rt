@@ -69,6 +69,11 @@ fn ready(s: Streams, input: &mut [u8; 65535], output: &[u8; 65535]) -> Streams {
     refill(s, input, output)
 }
 
+// Whether the next byte can be looked at without waiting for input.
+pub fn at_hand(s: Streams) -> bool {
+    s.at < s.held
+}
+
 fn looking_at(s: Streams, now: u16) -> Streams {
     let mut after = s;
     after.now = now;

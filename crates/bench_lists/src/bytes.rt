@@ -49,14 +49,13 @@ fn read_digits(
 }
 
 fn counted(digits: u64, now: u16) -> Taken {
+    if digits > 2 * 131200 {
+        return Taken::Wrong(Problem::TooManyBytes);
+    }
     if !ends_word(now) || digits % 2 == 1 {
         return Taken::Wrong(Problem::BadNumber);
     }
-    let n = digits / 2;
-    if n > 131200 {
-        return Taken::Wrong(Problem::TooManyBytes);
-    }
-    Taken::Bytes(n as usize)
+    Taken::Bytes((digits / 2) as usize)
 }
 
 fn read_pairs(

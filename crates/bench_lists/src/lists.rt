@@ -1,6 +1,7 @@
 // Lists, read a row of 1,024 items at a time: `V`, `V*K` and `A:B`, parted by commas, or `-` for none.
 use bench_io::Streams;
 use bench_io::advance;
+use bench_io::at_hand;
 use bench_words::Place;
 use bench_words::Problem;
 use bench_words::Sum;
@@ -264,7 +265,16 @@ fn kept(row: &mut [u64; 1024], n: usize, some: bool, value: u64) -> usize {
     n
 }
 
-// Reads on until the row is full or the list ends or fails, and puts the values of its numbers into the row.
+// Whether a row of n values is answered now, since what comes next in its list may have to be waited for.
+fn waits(list: List, s: Streams, n: usize) -> bool {
+    let stage = list.stage;
+    match stage {
+        Stage::Item(_) | Stage::Past => n > 0 && !at_hand(s),
+        Stage::Run | Stage::Ended | Stage::Failed(_) => false,
+    }
+}
+
+// Reads on until the row is full, the list ends or fails, or more input would have to be waited for, and puts the values of its numbers into the row.
 pub fn fill_row(
     from: List,
     s: Streams,
@@ -277,7 +287,7 @@ pub fn fill_row(
     let mut here = s;
     let mut n = 0;
     let mut turns = u64::MAX;
-    while turns > 0 && n < 1024 && goes_on(list) {
+    while turns > 0 && n < 1024 && goes_on(list) && !waits(list, here, n) {
         let next = step(list, here, input, output, place);
         n = kept(row, n, next.some, next.value);
         here = next.s;

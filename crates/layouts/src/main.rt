@@ -1,5 +1,5 @@
 // Every ICC layout by program, as document 01 asks: each kind of tag read, handed back in part, written and read back; each byte changed; each tag cut short and padded; counts
-// at their limits; and the refusals in their order. Each wanted answer is written out from ICC.1 and document 01. A line for each group says how many checks it made and how
+// at their limits; and the refusals in their order. Each wanted answer is written out from ICC.1 and document 01, or, of a changed byte, follows from its place. A line for each group says how many checks it made and how
 // many came out wrong.
 mod changed;
 mod counts;

@@ -125,6 +125,17 @@ fn show(head: Head, shown: usize, record: &[u8], at: usize, o: Outcome) -> usize
     plus(shown, 1)
 }
 
+// Whether the answer of a para tag that is to be written is as long as one may be: one of no bytes would agree with anything.
+fn has_tag(routine: usize, refusal: u32, length: usize) -> bool {
+    if routine != 16 {
+        return true;
+    }
+    if refusal != 0 {
+        return true;
+    }
+    length >= 12 && length <= 40
+}
+
 // One question, once its bytes are seen to be there and to be such a question.
 fn step(
     head: Head,
@@ -151,6 +162,7 @@ fn step(
     if next > record.len() {
         return Stepped::Wrong;
     }
+    // An answer that is empty would agree with anything.
     if next == answer {
         if refusal == 0 {
             return Stepped::Wrong;
@@ -163,6 +175,9 @@ fn step(
         return Stepped::Wrong;
     }
     if !is_askable(routine, first, number_at(record, plus(at, 4))) {
+        return Stepped::Wrong;
+    }
+    if !has_tag(routine, refusal, number_at(record, answer)) {
         return Stepped::Wrong;
     }
     let q = Question {

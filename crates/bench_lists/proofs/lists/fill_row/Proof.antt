@@ -15,6 +15,9 @@ loop-holds c = search needs
 goes-on-requires : tie.Need-goes-on-requires Inv-loop μ-loop
 goes-on-requires c κs = search needs
 
+waits-requires : tie.Need-waits-requires Inv-loop μ-loop
+waits-requires c κs = search needs
+
 step-requires : tie.Need-step-requires Inv-loop μ-loop
 step-requires c κs = search needs
 
@@ -39,6 +42,9 @@ returns-2 c = search needs
 returns-3 : tie.Need-returns-3 Inv-loop μ-loop
 returns-3 c = search needs
 
+returns-4 : tie.Need-returns-4 Inv-loop μ-loop
+returns-4 c = search needs
+
 pub fill-row-spec : {M : Type 1} → statement M
 fill-row-spec =
     tie.close
@@ -47,6 +53,7 @@ fill-row-spec =
     μ-loop
     loop-holds
     goes-on-requires
+    waits-requires
     step-requires
     kept-requires
     sub-turns
@@ -54,4 +61,5 @@ fill-row-spec =
     loop-again
     returns
     returns-2
-    returns-3)
+    returns-3
+    returns-4)
