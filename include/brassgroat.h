@@ -1,7 +1,7 @@
 /*
  * Brassgroat: the tone curve part of a photo lab's grey box. The face for C and C++.
  *
- * Every call is proved to keep its promise (crates/brassgroat, and the crate that each call names). Link
+ * Every call is proved to keep its promise (crates/brassgroat, and the crates that the headings name). Link
  * target/staticlib/libbrassgroat.a, which `rt staticlib brassgroat` writes, for x86-64 Linux; it needs no other library.
  *
  * What holds for every call:
@@ -135,7 +135,7 @@ uint32_t bg_invert_lut(const uint16_t *table, size_t table_len, uint16_t *out, s
 bg_real bg_lut_interp_linear_float(const float *table, size_t table_len, float x);
 
 /*
- * The float, where 1 stands for 65535, at x from 0 to 1 in a table of 16-bit entries. An empty table answers x.
+ * The float, where 1 stands for 65535, at x from 0 to 1 in a table of 16-bit entries. An empty table answers x as the nearest float.
  * Refused: 1 where table_len is above 65,536; 13 where x is a NaN, below 0 or above 1.
  */
 bg_real bg_lut_interp_linear(const uint16_t *table, size_t table_len, double x);
