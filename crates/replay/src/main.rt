@@ -91,6 +91,11 @@ fn read_head(fd: i32, record: &mut [u8]) -> bool {
     is_filled(fd, &mut record[0..16])
 }
 
+// Whether a record may have so many bytes: its head, and no more than there is room for.
+fn may_be_long(length: usize) -> bool {
+    length >= 16 && length <= 524288
+}
+
 fn read_rest(fd: i32, record: &mut [u8], length: usize) -> bool {
     if length < 16 {
         return false;
@@ -101,34 +106,11 @@ fn read_rest(fd: i32, record: &mut [u8], length: usize) -> bool {
     is_filled(fd, &mut record[16..length])
 }
 
-fn whole(
-    run: Run,
-    head: Head,
-    length: usize,
-    record: &[u8],
-    table: &mut [u16],
-    list: &mut [f32],
-    positions: &mut [u16],
-    halves: &mut [u16; 65537],
-    floats: &mut [f32; 65537],
-    tag: &mut [u8; 131086],
-    counts: &mut [usize; 34],
-) -> Turn {
+fn whole(run: Run, head: Head, length: usize, record: &[u8], counts: &mut [usize; 34]) -> Turn {
     if length > record.len() {
         return wrong(head.record);
     }
-    match replayed(
-        head,
-        run.shown,
-        &record[0..length],
-        table,
-        list,
-        positions,
-        halves,
-        floats,
-        tag,
-        counts,
-    ) {
+    match replayed(head, run.shown, &record[0..length], counts) {
         Went::On(shown) => Turn::Go(Run {
             records: head.record,
             questions: plus(run.questions, head.questions),
@@ -138,70 +120,43 @@ fn whole(
     }
 }
 
-fn next_record(
-    fd: i32,
-    run: Run,
-    record: &mut [u8; 524288],
-    table: &mut [u16; 65537],
-    list: &mut [f32; 65537],
-    positions: &mut [u16; 65537],
-    halves: &mut [u16; 65537],
-    floats: &mut [f32; 65537],
-    tag: &mut [u8; 131086],
-    counts: &mut [usize; 34],
-) -> Turn {
-    if !read_head(fd, record) {
-        return cut_short();
-    }
-    let head = Head {
-        record: plus(run.records, 1),
+// What a record says of itself after its length.
+fn head_of(number: usize, record: &[u8]) -> Head {
+    Head {
+        record: number,
         routine: number_at(record, 4),
         entries: number_at(record, 8),
         questions: number_at(record, 12),
-    };
-    let length = number_at(record, 0);
-    if length < 16 {
-        return wrong(head.record);
     }
-    if length > record.len() {
-        return wrong(head.record);
-    }
-    if !read_rest(fd, record, length) {
-        return cut_short();
-    }
-    if head.routine != 0 {
-        return whole(
-            run,
-            head,
-            length,
-            record,
-            table,
-            list,
-            positions,
-            halves,
-            floats,
-            tag,
-            counts,
-        );
-    }
+}
+
+fn last(fd: i32, run: Run, length: usize, record: &mut [u8], counts: &[usize; 34]) -> Turn {
     if length != 32 {
-        return wrong(head.record);
+        return wrong(plus(run.records, 1));
     }
     ended(fd, run, record, counts);
     Turn::Stop
 }
 
-fn records(
-    fd: i32,
-    record: &mut [u8; 524288],
-    table: &mut [u16; 65537],
-    list: &mut [f32; 65537],
-    positions: &mut [u16; 65537],
-    halves: &mut [u16; 65537],
-    floats: &mut [f32; 65537],
-    tag: &mut [u8; 131086],
-    counts: &mut [usize; 34],
-) {
+fn next_record(fd: i32, run: Run, record: &mut [u8; 524288], counts: &mut [usize; 34]) -> Turn {
+    if !read_head(fd, record) {
+        return cut_short();
+    }
+    let head = head_of(plus(run.records, 1), record);
+    let length = number_at(record, 0);
+    if !may_be_long(length) {
+        return wrong(head.record);
+    }
+    if !read_rest(fd, record, length) {
+        return cut_short();
+    }
+    if head.routine == 0 {
+        return last(fd, run, length, record, counts);
+    }
+    whole(run, head, length, record, counts)
+}
+
+fn records(fd: i32, record: &mut [u8; 524288], counts: &mut [usize; 34]) {
     let mut run = Run {
         records: 0,
         questions: 0,
@@ -209,18 +164,7 @@ fn records(
     };
     let mut turns = u64::MAX;
     while turns > 0 {
-        match next_record(
-            fd,
-            run,
-            record,
-            table,
-            list,
-            positions,
-            halves,
-            floats,
-            tag,
-            counts,
-        ) {
+        match next_record(fd, run, record, counts) {
             Turn::Go(next) => {
                 run = next;
             }
@@ -264,24 +208,8 @@ fn replay(fd: i32) {
         return;
     }
     let mut record = [0u8; 524_288];
-    let mut table = [0u16; 65_537];
-    let mut list = [0.0f32; 65_537];
-    let mut positions = [0u16; 65_537];
-    let mut halves = [0u16; 65_537];
-    let mut floats = [0.0f32; 65_537];
-    let mut tag = [0u8; 131_086];
     let mut counts = [0usize; 34];
-    records(
-        fd,
-        &mut record,
-        &mut table,
-        &mut list,
-        &mut positions,
-        &mut halves,
-        &mut floats,
-        &mut tag,
-        &mut counts,
-    );
+    records(fd, &mut record, &mut counts);
 }
 
 fn opened() -> i32 {

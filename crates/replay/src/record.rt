@@ -24,6 +24,11 @@ use cases::outcome::missed;
 // Differences that are shown of a whole file.
 const SHOWN: usize = 5;
 
+// One entry more than a table may have, and the bytes of its tag: what is asked may be too long by one.
+const MOST: usize = 65537;
+
+const MOST_BYTES: usize = 131086;
+
 // How many differences were shown so far; or that the record is not as its routine's are.
 pub enum Went {
     On(usize),
@@ -44,10 +49,12 @@ pub struct Head {
     pub questions: usize,
 }
 
-// Where a question stands, where its answer does, and the refusal that it must have, or 0.
+// Where a question, its answer and the next question stand, the mark between the first two, and the refusal in it that the answer must have, or 0.
 struct Question {
     at: usize,
     answer: usize,
+    next: usize,
+    mark: u32,
     refusal: u32,
 }
 
@@ -59,56 +66,48 @@ fn count(counts: &mut [usize; 34], routine: usize, o: Outcome) {
     }
 }
 
-fn asked_inverted(q: Question, record: &[u8], table: &[u16], out: &mut [u16]) -> Outcome {
+fn asked_inverted(q: Question, record: &[u8], table: &[u16]) -> Outcome {
     let n = number_at(record, q.at);
-    if n > out.len() {
+    if n > MOST {
         return missed();
     }
+    let mut out = [0u16; MOST];
     inverted(record, q.answer, q.refusal, table, &mut out[0..n])
 }
 
-fn asked_passthrough(q: Question, record: &[u8], out: &mut [f32]) -> Outcome {
+fn asked_passthrough(q: Question, record: &[u8]) -> Outcome {
     let n = number_at(record, q.at);
-    if n > out.len() {
+    if n > MOST {
         return missed();
     }
+    let mut out = [0.0f32; MOST];
     passed_through(record, q.answer, q.refusal, &mut out[0..n])
 }
 
-fn asked_curv(q: Question, record: &[u8], table: &[u16], out: &mut [u8]) -> Outcome {
+fn asked_curv(q: Question, record: &[u8], table: &[u16]) -> Outcome {
     let n = items(15, 0, table.len());
-    if n > out.len() {
+    if n > MOST_BYTES {
         return missed();
     }
+    let mut out = [0u8; MOST_BYTES];
     curv_written(record, q.answer, q.refusal, table, &mut out[0..n])
 }
 
-fn asked_para(q: Question, record: &[u8], out: &mut [u8]) -> Outcome {
+fn asked_para(q: Question, record: &[u8]) -> Outcome {
     let n = number_at(record, q.answer);
     if n > 40 {
         return missed();
     }
-    if n > out.len() {
-        return missed();
-    }
+    let mut out = [0u8; 40];
     para_written(record, q.at, q.answer, q.refusal, &mut out[0..n])
 }
 
-fn asked_one(
-    routine: usize,
-    q: Question,
-    record: &[u8],
-    table: &[u16],
-    list: &[f32],
-    halves: &mut [u16; 65537],
-    floats: &mut [f32; 65537],
-    tag: &mut [u8; 131086],
-) -> Outcome {
+fn asked_one(routine: usize, q: Question, record: &[u8], table: &[u16], list: &[f32]) -> Outcome {
     match routine {
-        4 => asked_inverted(q, record, table, halves),
-        7 => asked_passthrough(q, record, floats),
-        15 => asked_curv(q, record, table, tag),
-        16 => asked_para(q, record, tag),
+        4 => asked_inverted(q, record, table),
+        7 => asked_passthrough(q, record),
+        15 => asked_curv(q, record, table),
+        16 => asked_para(q, record),
         _ => answered(routine, record, q.at, q.answer, q.refusal, table, list),
     }
 }
@@ -136,7 +135,53 @@ fn has_tag(routine: usize, refusal: u32, length: usize) -> bool {
     length >= 12 && length <= 40
 }
 
-// One question, once its bytes are seen to be there and to be such a question.
+// The question at a place, whose bytes may not be there.
+fn question_at(head: Head, at: usize, record: &[u8]) -> Question {
+    let mark_at = plus(at, question_bytes(head.routine));
+    let mark = word_at(record, mark_at);
+    let refusal = mark % 128;
+    let answer = plus(mark_at, 4);
+    let n = items(head.routine, number_at(record, at), head.entries);
+    let next = plus(answer, answer_bytes(head.routine, n, refusal != 0));
+    Question {
+        at,
+        answer,
+        next,
+        mark,
+        refusal,
+    }
+}
+
+// Whether an answer that is not refused has something to agree with: an empty one would agree with anything.
+fn has_answer(q: Question) -> bool {
+    q.refusal != 0 || q.next != q.answer
+}
+
+// Whether the bytes of a question are there and are such a question.
+fn is_such(routine: usize, q: Question, record: &[u8]) -> bool {
+    if q.next > record.len() {
+        return false;
+    }
+    if !has_answer(q) {
+        return false;
+    }
+    if q.mark > 255 {
+        return false;
+    }
+    if q.refusal > 13 {
+        return false;
+    }
+    if !is_askable(
+        routine,
+        number_at(record, q.at),
+        number_at(record, plus(q.at, 4)),
+    ) {
+        return false;
+    }
+    has_tag(routine, q.refusal, number_at(record, q.answer))
+}
+
+// One question, once it is seen to be one.
 fn step(
     head: Head,
     at: usize,
@@ -144,50 +189,15 @@ fn step(
     record: &[u8],
     table: &[u16],
     list: &[f32],
-    halves: &mut [u16; 65537],
-    floats: &mut [f32; 65537],
-    tag: &mut [u8; 131086],
     counts: &mut [usize; 34],
 ) -> Stepped {
-    let routine = head.routine;
-    let first = number_at(record, at);
-    let mark_at = plus(at, question_bytes(routine));
-    let mark = word_at(record, mark_at);
-    let refusal = mark % 128;
-    let answer = plus(mark_at, 4);
-    let next = plus(
-        answer,
-        answer_bytes(routine, items(routine, first, head.entries), refusal != 0),
-    );
-    if next > record.len() {
+    let q = question_at(head, at, record);
+    if !is_such(head.routine, q, record) {
         return Stepped::Wrong;
     }
-    // An answer that is empty would agree with anything.
-    if next == answer {
-        if refusal == 0 {
-            return Stepped::Wrong;
-        }
-    }
-    if mark > 255 {
-        return Stepped::Wrong;
-    }
-    if refusal > 13 {
-        return Stepped::Wrong;
-    }
-    if !is_askable(routine, first, number_at(record, plus(at, 4))) {
-        return Stepped::Wrong;
-    }
-    if !has_tag(routine, refusal, number_at(record, answer)) {
-        return Stepped::Wrong;
-    }
-    let q = Question {
-        at,
-        answer,
-        refusal,
-    };
-    let o = asked_one(routine, q, record, table, list, halves, floats, tag);
-    count(counts, routine, o);
-    Stepped::To(next, show(head, shown, record, at, o))
+    let o = asked_one(head.routine, q, record, table, list);
+    count(counts, head.routine, o);
+    Stepped::To(q.next, show(head, shown, record, at, o))
 }
 
 // The questions, which must end where the record does.
@@ -198,9 +208,6 @@ fn in_turn(
     record: &[u8],
     table: &[u16],
     list: &[f32],
-    halves: &mut [u16; 65537],
-    floats: &mut [f32; 65537],
-    tag: &mut [u8; 131086],
     counts: &mut [usize; 34],
 ) -> Went {
     let questions = head.questions;
@@ -208,18 +215,7 @@ fn in_turn(
     let mut shown = already;
     let mut i = 0;
     while i < questions {
-        match step(
-            head,
-            at,
-            shown,
-            record,
-            table,
-            list,
-            halves,
-            floats,
-            tag,
-            counts,
-        ) {
+        match step(head, at, shown, record, table, list, counts) {
             Stepped::To(next, more) => {
                 at = next;
                 shown = more;
@@ -243,17 +239,14 @@ fn as_row(
     shown: usize,
     record: &[u8],
     table: &[u16],
-    positions: &mut [u16],
-    out: &mut [u16],
     counts: &mut [usize; 34],
 ) -> Went {
     let n = head.questions;
-    if n > positions.len() {
+    if n > MOST {
         return Went::Wrong;
     }
-    if n > out.len() {
-        return Went::Wrong;
-    }
+    let mut positions = [0u16; MOST];
+    let mut out = [0u16; MOST];
     let o = row_looked_up(record, start, table, &mut positions[0..n], &mut out[0..n]);
     count(counts, 0, o);
     let row = Head {
@@ -273,145 +266,82 @@ fn row_question(start: usize, i: usize) -> usize {
     plus(start, 12 * i)
 }
 
-// A record with a table of 16-bit entries.
-fn on_table(
+// A record with a table of 16-bit entries, as long as the one that is lent; where its routine has a row, the questions are asked as one too.
+fn of_table(
     head: Head,
     shown: usize,
     record: &[u8],
     table: &mut [u16],
-    positions: &mut [u16],
-    halves: &mut [u16; 65537],
-    floats: &mut [f32; 65537],
-    tag: &mut [u8; 131086],
     counts: &mut [usize; 34],
 ) -> Went {
     load_halves(record, 16, 2, table);
     let start = plus(16, plus(table.len(), table.len()));
-    let none = [0.0f32; 1];
-    let went = in_turn(
-        head,
-        start,
-        shown,
-        record,
-        table,
-        &none,
-        halves,
-        floats,
-        tag,
-        counts,
-    );
+    let went = in_turn(head, start, shown, record, table, &[0.0], counts);
     let routine = head.routine;
     if routine != 1 {
         return went;
     }
     match went {
-        Went::On(shown) => as_row(head, start, shown, record, table, positions, halves, counts),
+        Went::On(more) => as_row(head, start, more, record, table, counts),
         Went::Wrong => Went::Wrong,
     }
 }
 
-// A record with a list of floats.
-fn on_list(
+fn on_table(head: Head, shown: usize, record: &[u8], counts: &mut [usize; 34]) -> Went {
+    let n = head.entries;
+    if n > MOST {
+        return Went::Wrong;
+    }
+    let mut table = [0u16; MOST];
+    of_table(head, shown, record, &mut table[0..n], counts)
+}
+
+// A record with a list of floats, as long as the one that is lent.
+fn of_list(
     head: Head,
     shown: usize,
     record: &[u8],
     list: &mut [f32],
-    halves: &mut [u16; 65537],
-    floats: &mut [f32; 65537],
-    tag: &mut [u8; 131086],
     counts: &mut [usize; 34],
 ) -> Went {
     load_floats(record, 16, list);
     let two = plus(list.len(), list.len());
-    let none = [0u16; 1];
     in_turn(
         head,
         plus(16, plus(two, two)),
         shown,
         record,
-        &none,
+        &[0],
         list,
-        halves,
-        floats,
-        tag,
         counts,
     )
 }
 
-// All of a record, whose bytes these are.
-pub fn replayed(
-    head: Head,
-    shown: usize,
-    record: &[u8],
-    table: &mut [u16],
-    list: &mut [f32],
-    positions: &mut [u16],
-    halves: &mut [u16; 65537],
-    floats: &mut [f32; 65537],
-    tag: &mut [u8; 131086],
-    counts: &mut [usize; 34],
-) -> Went {
+fn on_list(head: Head, shown: usize, record: &[u8], counts: &mut [usize; 34]) -> Went {
     let n = head.entries;
-    if !is_routine(head.routine) {
+    if n > MOST {
         return Went::Wrong;
     }
-    if n > table.len() {
-        return Went::Wrong;
-    }
-    if n > list.len() {
-        return Went::Wrong;
-    }
-    match entry_bytes(head.routine) {
-        2 => on_table(
-            head,
-            shown,
-            record,
-            &mut table[0..n],
-            positions,
-            halves,
-            floats,
-            tag,
-            counts,
-        ),
-        4 => on_list(
-            head,
-            shown,
-            record,
-            &mut list[0..n],
-            halves,
-            floats,
-            tag,
-            counts,
-        ),
-        _ => on_nothing(head, shown, record, halves, floats, tag, counts),
-    }
+    let mut list = [0.0f32; MOST];
+    of_list(head, shown, record, &mut list[0..n], counts)
 }
 
 // A record whose routine has no table must have no entries.
-fn on_nothing(
-    head: Head,
-    shown: usize,
-    record: &[u8],
-    halves: &mut [u16; 65537],
-    floats: &mut [f32; 65537],
-    tag: &mut [u8; 131086],
-    counts: &mut [usize; 34],
-) -> Went {
+fn on_nothing(head: Head, shown: usize, record: &[u8], counts: &mut [usize; 34]) -> Went {
     if head.entries != 0 {
         return Went::Wrong;
     }
-    let no_table = [0u16; 1];
-    let no_list = [0.0f32; 1];
-    in_turn(
-        head,
-        16,
-        shown,
-        record,
-        &no_table,
-        &no_list,
-        halves,
-        floats,
-        tag,
-        counts,
-    )
+    in_turn(head, 16, shown, record, &[0], &[0.0], counts)
+}
+
+// All of a record, whose bytes these are.
+pub fn replayed(head: Head, shown: usize, record: &[u8], counts: &mut [usize; 34]) -> Went {
+    if !is_routine(head.routine) {
+        return Went::Wrong;
+    }
+    match entry_bytes(head.routine) {
+        2 => on_table(head, shown, record, counts),
+        4 => on_list(head, shown, record, counts),
+        _ => on_nothing(head, shown, record, counts),
+    }
 }

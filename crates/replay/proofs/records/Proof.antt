@@ -5,11 +5,11 @@ use Rattle.replay.proofs.records.Statement.{statement}
 use Rattle.replay.proofs.records.Tie as tie
 
 abbrev Inv-loop : tie.InvT-loop
-Inv-loop fd record₀ table₀ list₀ positions₀ halves₀ floats₀ tag₀ counts₀ run₀ turns₀ «record» table list positions halves floats tag counts run turns =
+Inv-loop fd record₀ counts₀ run₀ turns₀ «record» counts run turns =
     Unit {0}
 
 abbrev μ-loop : tie.MeasureT-loop
-μ-loop fd record₀ table₀ list₀ positions₀ halves₀ floats₀ tag₀ counts₀ run₀ turns₀ «record» table list positions halves floats tag counts run turns =
+μ-loop fd record₀ counts₀ run₀ turns₀ «record» counts run turns =
     turns
 
 loop-holds : tie.Need-loop-holds Inv-loop μ-loop

@@ -6,11 +6,11 @@ use Rattle.replay.proofs.record.in_turn.Statement.{statement}
 use Rattle.replay.proofs.record.in_turn.Tie as tie
 
 abbrev Inv-loop : tie.InvT-loop
-Inv-loop head start already «record» table list halves₀ floats₀ tag₀ counts₀ questions at₀ shown₀ i₀ halves floats tag counts at shown i =
+Inv-loop head start already «record» table list counts₀ questions at₀ shown₀ i₀ counts at shown i =
     Unit {0}
 
 abbrev μ-loop : tie.MeasureT-loop
-μ-loop head start already «record» table list halves₀ floats₀ tag₀ counts₀ questions at₀ shown₀ i₀ halves floats tag counts at shown i =
+μ-loop head start already «record» table list counts₀ questions at₀ shown₀ i₀ counts at shown i =
     questions - i
 
 loop-holds : tie.Need-loop-holds Inv-loop μ-loop
