@@ -3,7 +3,7 @@
  * goes back into a tag. From the project's root:
  *
  *     rt staticlib brassgroat
- *     cc -Iinclude -o curve examples/curve.c target/staticlib/libbrassgroat.a && ./curve
+ *     cc -Iinclude -o target/curve examples/curve.c target/staticlib/libbrassgroat.a && target/curve
  */
 #include <brassgroat.h>
 

@@ -1,0 +1,49 @@
+//! A morning at the lab, in Rust: a curve arrives as an ICC tag, the operator nudges a point, the day's jobs read the curve, and it
+//! goes back into a tag. It prints what examples/curve.c does. From the project's root:
+//!
+//! ```text
+//! rt staticlib brassgroat
+//! cd bindings/rust && cargo run --example curve
+//! ```
+use brassgroat::{Density, Drive, Refusal, curv};
+
+fn main() -> Result<(), Refusal> {
+    // The tag: "curv", four zero bytes, how many entries, and the entries, big-endian.
+    let tag = *b"curv\0\0\0\0\0\0\0\x05\x00\x00\x23\x28\x75\x30\xcb\x20\xff\xff";
+
+    // Ask how many entries there are, lend a buffer of exactly that many, and read them.
+    let n = curv::count(&tag)?;
+    let mut table = vec![0; n];
+    curv::read(&tag, &mut table)?;
+    println!("the tag has {n} entries, the third is {}", table[2]);
+
+    // A curve may be worked on if no entry is below the one before it.
+    brassgroat::accept(&table)?;
+
+    // The operator nudges the middle. A nudge past a neighbour is refused, and the curve stays in order.
+    brassgroat::nudge(&mut table, 2, Density(33000))?;
+    println!("nudged to {}", table[2]);
+    if brassgroat::nudge(&mut table, 2, Density(60000)) == Err(Refusal::OutsideNeighbours) {
+        println!("60000 is above the next entry: still {}", table[2]);
+    }
+
+    // A drive in, a density out. They are two types, so that neither is written in the other's column.
+    let half = Drive(32768);
+    let density = brassgroat::lut_interp_linear16(&table, half)?;
+    println!("drive {} gives density {}", half.0, density.0);
+
+    // And back: the least drive that gives at least a density.
+    let least = brassgroat::least_input(&table, density)?;
+    println!("density {} is first reached at drive {}", density.0, least.0);
+
+    // A job has many positions: look up a row of them in one call.
+    let mut print = [0; 4];
+    brassgroat::lut_interp_linear16_row(&table, &[0, 16384, 49152, 65535], &mut print)?;
+    println!("the row: {} {} {} {}", print[0], print[1], print[2], print[3]);
+
+    // In the evening the curve goes back into a tag, 12 bytes and two for each entry.
+    let mut evening = [0; 22];
+    curv::write(&table, &mut evening)?;
+    println!("bytes 16 and 17 of the tag: {:02x} {:02x}", evening[16], evening[17]);
+    Ok(())
+}
