@@ -11,9 +11,9 @@ use Rattle.ieee.proofs.Operations.{mul-swap}
 use Rattle.ieee.proofs.Range.{Upto, Held, mul-upto, whole-of, div-close}
 use Rattle.rounding.specs.Cut.{floor, FloorPromise}
 use Rattle.rounding.proofs.Cut as cut
-use Rattle.inverse.specs.Tail.{float, half}
+use Rattle.inverse_tail.specs.Tail.{float, half}
 use Rattle.invert.specs.Invert.{scaleOf, asked}
-use Rattle.inverse.proofs.Clamp.{top-bits, half-bits, half-cut}
+use Rattle.inverse_tail.proofs.Clamp.{top-bits, half-bits, half-cut}
 
 -- 65535.25
 quarter-over : Held binary64 262141 4

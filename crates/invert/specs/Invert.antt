@@ -4,7 +4,7 @@ use mathlib.Core.List.{List}
 use lib.Ieee.{Float, binary64, add, mul, div}
 use Rattle.table.specs.Fill.{tabulated}
 use Rattle.rounding.specs.Cut.{floor}
-use Rattle.inverse.specs.Tail.{float, half}
+use Rattle.inverse_tail.specs.Tail.{float, half}
 use Rattle.inverse.specs.Inverse.{inverted}
 
 -- s = 65535/(m-1)

@@ -6,9 +6,9 @@ use lib.ListN.{length}
 use lib.Ieee.{binary64}
 use denote.Ref.{now}
 use Rattle.ieee.proofs.Range.{in-float}
-use Rattle.inverse.proofs.Cells.{one-cell, nearly-flat, sloped}
-use Rattle.inverse.proofs.inside.between.Statement.{statement}
-use Rattle.inverse.proofs.inside.between.Tie as tie
+use Rattle.inverse_tail.proofs.Cells.{one-cell, nearly-flat, sloped}
+use Rattle.inverse_tail.proofs.inside.between.Statement.{statement}
+use Rattle.inverse_tail.proofs.inside.between.Tie as tie
 
 returns : tie.Need-returns
 returns c = one-cell _ _ _ _ _ (c .if1 .taken)

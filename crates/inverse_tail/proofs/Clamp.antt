@@ -20,7 +20,7 @@ use Rattle.ieee.proofs.Zero.{zeros-ordered}
 use Rattle.ieee.proofs.Range.{outside-is}
 use Rattle.rounding.specs.Cut.{floor, FloorPromise}
 use Rattle.rounding.proofs.Cut as cut
-use Rattle.inverse.specs.Tail.{float, half, hundredth, rounded}
+use Rattle.inverse_tail.specs.Tail.{float, half, hundredth, rounded}
 
 -- ---- the constants, by their patterns
 pub top-bits : ofBits binary64 0x40ef_ffe0_0000_0000 ≡ float 65535

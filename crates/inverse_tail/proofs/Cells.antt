@@ -15,8 +15,8 @@ use Rattle.ieee.proofs.Range.{scaled-upto, ratio-upto, upto-more}
 use Rattle.rounding.specs.Cut.{floor, ceil, FloorPromise, CeilPromise}
 use Rattle.rounding.specs.Size.{abs, AbsPromise}
 use Rattle.rounding.proofs.Cut.{floor-upto, ceil-upto}
-use Rattle.inverse.specs.Tail.{float, cellOf, nodeOf, rounded, between, tail}
-use Rattle.inverse.proofs.Clamp.{top-bits, hundredth-bits, rounded-fits}
+use Rattle.inverse_tail.specs.Tail.{float, cellOf, nodeOf, rounded, between, tail}
+use Rattle.inverse_tail.proofs.Clamp.{top-bits, hundredth-bits, rounded-fits}
 
 -- ---- the two cells
 module _ (t : List ℕ) (x : ℕ) (some : 1 ≤ length t) (few : length t ≤ 65536) (X : x ≤ 65536) where

@@ -1,8 +1,8 @@
 -- `zero_at_once` meets its contract, test by test. Assumes nothing.
 use borrow.Author.Tests.{eq-eqb, ne-eqb, lt-ltb, le-ltb}
-use Rattle.inverse.specs.Inverse.{zeroAtOnce}
-use Rattle.inverse.proofs.inside.zero_at_once.Statement.{statement}
-use Rattle.inverse.proofs.inside.zero_at_once.Tie as tie
+use Rattle.inverse_start.specs.Start.{zeroAtOnce}
+use Rattle.inverse_start.proofs.inside.zero_at_once.Statement.{statement}
+use Rattle.inverse_start.proofs.inside.zero_at_once.Tie as tie
 
 returns : tie.Need-returns
 unfolding zeroAtOnce

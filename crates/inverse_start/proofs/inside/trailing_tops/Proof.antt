@@ -2,10 +2,10 @@
 use Prim.Native.Nat.{_-_}
 use borrow.Author.Needs.{needs}
 use lib.ListN.{length}
-use Rattle.inverse.specs.Inverse.{fromEnd, trailingTops}
-use Rattle.inverse.proofs.Runs.{Counting, counting-start, counting-more, counting-stop, counting-end}
-use Rattle.inverse.proofs.inside.trailing_tops.Statement.{statement}
-use Rattle.inverse.proofs.inside.trailing_tops.Tie as tie
+use Rattle.inverse_start.specs.Start.{fromEnd, trailingTops}
+use Rattle.inverse_start.proofs.Runs.{Counting, counting-start, counting-more, counting-stop, counting-end}
+use Rattle.inverse_start.proofs.inside.trailing_tops.Statement.{statement}
+use Rattle.inverse_start.proofs.inside.trailing_tops.Tie as tie
 
 abbrev Inv-loop : tie.InvT-loop
 Inv-loop table w₀ w = Counting 65535 (fromEnd table) (length table) w

@@ -3,9 +3,9 @@ use mathlib.Core.Path.{sym}
 use Prim.Native.Nat.{_≤_, _<_}
 use native.Mathlib.Omega.{arith}
 use borrow.Author.Needs.{needs}
-use Rattle.inverse.proofs.Start.{right-none, right-some, right-all, right-quotient}
-use Rattle.inverse.proofs.inside.first_right.Statement.{statement}
-use Rattle.inverse.proofs.inside.first_right.Tie as tie
+use Rattle.inverse_start.proofs.Start.{right-none, right-some, right-all, right-quotient}
+use Rattle.inverse_start.proofs.inside.first_right.Statement.{statement}
+use Rattle.inverse_start.proofs.inside.first_right.Tie as tie
 
 returns : tie.Need-returns
 returns c =

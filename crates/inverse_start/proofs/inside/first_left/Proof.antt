@@ -2,9 +2,9 @@
 use mathlib.Core.Path.{sym}
 use native.Mathlib.Omega.{arith}
 use borrow.Author.Needs.{needs}
-use Rattle.inverse.proofs.Start.{left-one, left-some, left-quotient-low}
-use Rattle.inverse.proofs.inside.first_left.Statement.{statement}
-use Rattle.inverse.proofs.inside.first_left.Tie as tie
+use Rattle.inverse_start.proofs.Start.{left-one, left-some, left-quotient-low}
+use Rattle.inverse_start.proofs.inside.first_left.Statement.{statement}
+use Rattle.inverse_start.proofs.inside.first_left.Tie as tie
 
 sub-result : tie.Need-sub-result
 sub-result c = search needs

@@ -1,8 +1,8 @@
 -- `rounded` meets its contract, test by test. Assumes nothing.
 use native.Mathlib.Omega.{arith}
-use Rattle.inverse.proofs.Clamp.{rounded-high, rounded-low, rounded-asks, rounded-small, rounded-mid}
-use Rattle.inverse.proofs.inside.rounded.Statement.{statement}
-use Rattle.inverse.proofs.inside.rounded.Tie as tie
+use Rattle.inverse_tail.proofs.Clamp.{rounded-high, rounded-low, rounded-asks, rounded-small, rounded-mid}
+use Rattle.inverse_tail.proofs.inside.rounded.Statement.{statement}
+use Rattle.inverse_tail.proofs.inside.rounded.Tie as tie
 
 returns : tie.Need-returns
 returns c = rounded-high (c .before .args .f) (c .if1 .taken)

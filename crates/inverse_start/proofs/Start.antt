@@ -8,7 +8,7 @@ use borrow.Author.Tests.{lt-ltb, le-ltb}
 use lib.IntN.{ℤ, pos, negsuc, negℤ, _+ℤ_, _-ℤ_}
 use Rattle.table.proofs.Choice.{below?, same?}
 use Rattle.lookup.proofs.Sum.{div-mono}
-use Rattle.inverse.specs.Inverse.{firstLeft, notBelow0, firstRight}
+use Rattle.inverse_start.specs.Start.{firstLeft, notBelow0, firstRight}
 
 -- ---- on the left
 pub left-one : (n z : ℕ) → z ≤ 1 → firstLeft n z ≡ 1

@@ -7,9 +7,9 @@ use lib.Ieee.{binary64}
 use denote.Ref.{now}
 use Rattle.table.proofs.Sizes.{within-low, within-high}
 use Rattle.ieee.proofs.Range.{in-float}
-use Rattle.inverse.proofs.Cells.{place-asks, cell0-inside, cell1-inside, tail-is}
-use Rattle.inverse.proofs.inside.tail.Statement.{statement}
-use Rattle.inverse.proofs.inside.tail.Tie as tie
+use Rattle.inverse_tail.proofs.Cells.{place-asks, cell0-inside, cell1-inside, tail-is}
+use Rattle.inverse_tail.proofs.inside.tail.Statement.{statement}
+use Rattle.inverse_tail.proofs.inside.tail.Tie as tie
 
 some : (c : tie.Start) → 1 ≤ length (now (c .args .table))
 some c = within-low 1 65536 _ (c .pre .0)

@@ -14,7 +14,7 @@ use lib.Dec.{eqb}
 use Rattle.table.specs.Choice.{pick}
 use Rattle.table.proofs.Choice.{below?}
 use Rattle.lookup.specs.Lookup.{entriesOf}
-use Rattle.inverse.specs.Inverse.{run, leadingZeros, fromEnd, trailingTops}
+use Rattle.inverse_start.specs.Start.{run, leadingZeros, fromEnd, trailingTops}
 
 module _ (y : ℕ) where
   -- i entries are y, and then there is none or another one: i is the run

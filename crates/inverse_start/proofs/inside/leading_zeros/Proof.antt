@@ -3,10 +3,10 @@ use Prim.Native.Nat.{_-_}
 use borrow.Author.Needs.{needs}
 use lib.ListN.{length}
 use Rattle.lookup.specs.Lookup.{entriesOf}
-use Rattle.inverse.specs.Inverse.{leadingZeros}
-use Rattle.inverse.proofs.Runs.{Counting, counting-start, counting-more, counting-stop, counting-end}
-use Rattle.inverse.proofs.inside.leading_zeros.Statement.{statement}
-use Rattle.inverse.proofs.inside.leading_zeros.Tie as tie
+use Rattle.inverse_start.specs.Start.{leadingZeros}
+use Rattle.inverse_start.proofs.Runs.{Counting, counting-start, counting-more, counting-stop, counting-end}
+use Rattle.inverse_start.proofs.inside.leading_zeros.Statement.{statement}
+use Rattle.inverse_start.proofs.inside.leading_zeros.Tie as tie
 
 abbrev Inv-loop : tie.InvT-loop
 Inv-loop table z₀ z = Counting 0 (entriesOf table) (length table) z
