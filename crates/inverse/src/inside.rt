@@ -28,24 +28,21 @@ fn search(table: &[u16], v: u16, left: usize, right: usize) -> Found
     let top = table.len() - 1;
     let mut l = left;
     let mut r = right;
-    let mut x: usize = 0;
-    let found = loop {
-        if r <= l {
-            break Found::Missed(x as u16);
-        }
+    let mut x = 0;
+    while l < r {
         x = (l + r) / 2;
         let p = (x - 1) as u16;
         let y = lookup_to(table, top, p);
         if y == v {
-            break Found::Hit(p);
+            return Found::Hit(p);
         }
         if v < y {
             r = x - 1;
         } else {
             l = x + 1;
         }
-    };
-    found
+    }
+    Found::Missed(x as u16)
 }
 
 // The inverse, for whoever has tested the table's length.

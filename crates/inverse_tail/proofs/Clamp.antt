@@ -14,13 +14,13 @@ use lib.Ieee.Bits.{is-true}
 use lib.Ieee.Fits.{down-pos, and-l, and-r}
 use lib.Ieee.Order.{le-of-values}
 use Rattle.table.specs.Choice.{pick}
-use Rattle.ieee.specs.Range.{whole, nought, upto}
+use Rattle.ieee.specs.Range.{whole, nought, half, upto}
 use Rattle.ieee.proofs.Tests.{bits-nought, negative-under}
 use Rattle.ieee.proofs.Zero.{zeros-ordered}
 use Rattle.ieee.proofs.Range.{outside-is}
 use Rattle.rounding.specs.Cut.{floor, FloorPromise}
-use Rattle.rounding.proofs.Cut as cut
-use Rattle.inverse_tail.specs.Tail.{float, half, hundredth, rounded}
+use Rattle.rounding.proofs.Cut.{half-upto, half-floor, upto-quarter}
+use Rattle.inverse_tail.specs.Tail.{float, hundredth, rounded}
 
 -- ---- the constants, by their patterns
 pub top-bits : ofBits binary64 0x40ef_ffe0_0000_0000 ≡ float 65535
@@ -28,7 +28,7 @@ unfolding ofBits ofInt round
 top-bits = refl
 
 pub half-bits : ofBits binary64 0x3fe0_0000_0000_0000 ≡ half
-unfolding ofBits round
+unfolding ofBits
 half-bits = refl
 
 pub hundredth-bits : ofBits binary64 0x3f84_7ae1_47ae_147b ≡ hundredth
@@ -38,10 +38,6 @@ hundredth-bits = refl
 top-whole : float 65535 ≡ whole 65535
 unfolding ofInt round
 top-whole = refl
-
-pub half-cut : half ≡ cut.half
-unfolding round
-half-cut = refl
 
 -- ---- what the tests tell
 -- at or above a whole number is not below 0
@@ -95,10 +91,10 @@ rounded-nan = refl
 
 -- floor(f + 0.5) for an f from 0 to 65535
 mid-upto : (f : Float) → T (upto 65535 f) → T (upto 65536 (add binary64 f half))
-mid-upto f t = subst (λ (z : Float). T (upto 65536 (add binary64 f z))) (sym half-cut) (cut.half-upto f (cut.upto-quarter f t))
+mid-upto f t = half-upto f (upto-quarter f t)
 
 mid-fits : (f : Float) → T (upto 65535 f) → floor (add binary64 f half) ≤ 65535
-mid-fits f t = subst (λ (z : Float). floor (add binary64 f z) ≤ 65535) (sym half-cut) (cut.half-floor f (cut.upto-quarter f t))
+mid-fits f t = half-floor f (upto-quarter f t)
 
 number-fits : (f : Float) → isNan f ≡ false → rounded f ≤ 65535
 unfolding rounded

@@ -8,7 +8,7 @@ use lib.IntN.{pos}
 use lib.Dec.{eqb}
 use lib.Ieee.{Float, binary64, round, neg, add, sub, mul, div, lt, le, ofInt}
 use Rattle.table.specs.Choice.{pick}
-use Rattle.ieee.specs.Range.{nought}
+use Rattle.ieee.specs.Range.{nought, half}
 use Rattle.rounding.specs.Cut.{floor, ceil}
 use Rattle.rounding.specs.Size.{abs}
 
@@ -16,10 +16,7 @@ use Rattle.rounding.specs.Size.{abs}
 abbrev pub float : ℕ → Float
 float k = ofInt binary64 (pos k)
 
--- 0.5, which an f64 holds, and the f64 nearest to 0.01
-abbrev pub half : Float
-half = round binary64 false 1 2
-
+-- the f64 nearest to 0.01
 abbrev pub hundredth : Float
 hundredth = round binary64 false 1 100
 

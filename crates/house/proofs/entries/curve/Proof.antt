@@ -1,8 +1,8 @@
 -- `curve` meets its contract: the rule's test, computed over the whole constant. Assumes nothing.
 use mathlib.Core.Path.{refl}
 use Rattle.house.proofs.Tested.{tested}
-use Rattle.house.proofs.curve.curve.Statement.{statement}
-use Rattle.house.proofs.curve.curve.Tie as tie
+use Rattle.house.proofs.entries.curve.Statement.{statement}
+use Rattle.house.proofs.entries.curve.Tie as tie
 
 returns : tie.Need-returns
 returns c = tested _ refl
