@@ -5,11 +5,12 @@ use native.Mathlib.Nat.{zero-add}
 use native.Mathlib.Omega.{arith}
 use lib.ListN.{take, drop}
 use Rattle.table.specs.Refusals.{granted, refused}
 use Rattle.curv.specs.Tag.{countOf}
-use Rattle.curv.proofs.Promises.{refused-count, granted-count, part-meets}
+use Rattle.curv.proofs.Promises.{refused-count, granted-count}
+use Rattle.curv_part.proofs.Promises.{part-meets}
 use borrow.Author.Needs.{needs}
-use Rattle.curv.proofs.entry_bytes.Statement.{statement}
-use Rattle.curv.proofs.entry_bytes.Tie as tie
+use Rattle.curv_part.proofs.entry_bytes.Statement.{statement}
+use Rattle.curv_part.proofs.entry_bytes.Tie as tie
 
 count-entries-requires : tie.Need-count-entries-requires
 count-entries-requires c κs = search needs

@@ -1,9 +1,10 @@
 -- `read_curv` meets its contract: refused as the count is, then for the buffer's length, and filled otherwise. Assumes nothing.
 use native.Mathlib.Omega.{arith}
-use Rattle.curv.proofs.Promises.{refused-count, granted-count, read-refused, read-misfit, read-granted}
+use Rattle.curv.proofs.Promises.{refused-count, granted-count}
+use Rattle.curv_reader.proofs.Promises.{read-refused, read-misfit, read-granted}
 use borrow.Author.Needs.{needs}
-use Rattle.curv.proofs.read_curv.Statement.{statement}
-use Rattle.curv.proofs.read_curv.Tie as tie
+use Rattle.curv_reader.proofs.read_curv.Statement.{statement}
+use Rattle.curv_reader.proofs.read_curv.Tie as tie
 
 count-entries-requires : tie.Need-count-entries-requires
 count-entries-requires c κs = search needs

@@ -5,9 +5,9 @@ use native.Mathlib.Omega.{arith}
 use borrow.Author.Needs.{needs}
 use lib.ListN.{length}
 use Rattle.table.proofs.Fill.{Filling, filling-start, filling-more, filling-done}
 use Rattle.curv.specs.Tag.{entryAt}
-use Rattle.curv.proofs.fill.Statement.{statement}
-use Rattle.curv.proofs.fill.Tie as tie
+use Rattle.curv_reader.proofs.fill.Statement.{statement}
+use Rattle.curv_reader.proofs.fill.Tie as tie
 
 abbrev Inv-loop : tie.InvT-loop
 Inv-loop tag out₀ i₀ out i = Filling (entryAt tag) out₀ i out
