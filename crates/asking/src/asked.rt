@@ -25,7 +25,7 @@ use cases::outcome::as_one;
 use cases::outcome::counted;
 use cases::outcome::nothing;
 use cases::outcome::said;
-use matan::Direction;
+use monotonic::Direction;
 use parametric::ParametricCurve;
 use table::Density;
 use table::Drive;
@@ -128,8 +128,8 @@ fn asked(routine: usize, record: &[u8], at: usize, table: &[u16], list: &[f32]) 
         8 => one_float(rounding::u8_fixed_8number_to_float(half_at(record, at))),
         9 => curve(record, at),
         10 => close(record, at),
-        11 => monotonic(matan::is_curve_monotonic(table, direction(word_at(record, at)))),
-        12 => degenerated(matan::is_curve_degenerated(table)),
+        11 => monotonic(monotonic::is_curve_monotonic(table, direction(word_at(record, at)))),
+        12 => degenerated(degeneration::is_curve_degenerated(table)),
         13 => one_float(rounding::nearest_f64_to_f32(double_at(record, at))),
         14 => one_float(rounding::s15_fixed16_number_to_float(signed_of(word_at(record, at)))),
         _ => no_answer(),

@@ -1,9 +1,9 @@
 // What a call of the library answered, in words as a case file has them.
 use cases::floats::pattern;
+use degeneration::Degenerated;
 use gamma::Coded;
 use interp::Interpolated;
-use matan::Degenerated;
-use matan::Monotonic;
+use monotonic::Monotonic;
 use parametric::Unified;
 use table::Looked;
 use table::Refusal;

@@ -21,9 +21,9 @@ use bench_words::named;
 use bench_words::put_problem;
 use bench_words::read_number;
 use bench_words::short;
-use matan::Degenerated;
-use matan::Direction;
-use matan::Monotonic;
+use degeneration::Degenerated;
+use monotonic::Direction;
+use monotonic::Monotonic;
 use table::Density;
 use table::Done;
 ghost use Prim.Native.Nat.{_≤_};
@@ -272,7 +272,7 @@ fn put_monotonic(
     table: &[u16],
     direction: Direction,
 ) -> Streams {
-    match matan::is_curve_monotonic(table, direction) {
+    match monotonic::is_curve_monotonic(table, direction) {
         Monotonic::Yes(count) => put_verdict(s, output, b"yes ", count),
         Monotonic::No(count) => put_verdict(s, output, b"no ", count),
         Monotonic::Refused(why) => put_refused(s, output, why),
@@ -314,7 +314,7 @@ pub fn monotonic(
 
 // `degenerated`.
 pub fn degenerated(s: Streams, output: &mut [u8; 65535], table: &[u16]) -> Streams {
-    match matan::is_curve_degenerated(table) {
+    match degeneration::is_curve_degenerated(table) {
         Degenerated::Yes => put(s, output, b"yes"),
         Degenerated::No => put(s, output, b"no"),
         Degenerated::Refused(why) => put_refused(s, output, why),

@@ -27,8 +27,10 @@ use Rattle.interp.specs.Promises.{FloatPromise, LinearPromise, PassthroughPromi
 use Rattle.interp.proofs.Answers.{float-one, linear-one, passthrough-one}
 use Rattle.parametric.specs.Promises.{NewPromise}
 use Rattle.parametric.proofs.Unify.{new-one}
-use Rattle.matan.specs.Promises.{MonotonicPromise, DegeneratedPromise}
-use Rattle.matan.proofs.Promises.{monotonic-one, degenerated-one}
+use Rattle.monotonic.specs.Promises.{MonotonicPromise}
+use Rattle.monotonic.proofs.Promises.{monotonic-one}
+use Rattle.degeneration.specs.Promises.{DegeneratedPromise}
+use Rattle.degeneration.proofs.Promises.{degenerated-one}
 use Rattle.house.specs.Promises.{EntryPromise, FillPromise}
 use Rattle.house.proofs.Promises.{entry-one, fill-one}
 use Rattle.curv.specs.Promises as curv

@@ -12,8 +12,8 @@ use Rattle.ieee.specs.Range.{nought}
 use Rattle.interp.specs.declared.Interpolated.{Interpolated}
 use Rattle.parametric.specs.declared.Unified.{Unified}
 use Rattle.parametric.specs.Promises.{noCurve}
-use Rattle.matan.specs.declared.monotonic.Monotonic.{Monotonic}
-use Rattle.matan.specs.declared.degeneration.Degenerated.{Degenerated}
+use Rattle.monotonic.specs.declared.Monotonic.{Monotonic}
+use Rattle.degeneration.specs.declared.Degenerated.{Degenerated}
 use Rattle.curv.specs.declared.Counted.{Counted}
 use Rattle.para.specs.declared.Read.{Read}
 use Rattle.para.specs.Answers.{noNumbers}

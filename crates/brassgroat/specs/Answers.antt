@@ -11,11 +11,12 @@ use Rattle.interp.specs.Promises.{numberOfInterpolated, valueOfInterpolated}
 use Rattle.parametric.specs.declared.ParametricCurve.{ParametricCurve}
 use Rattle.parametric.specs.declared.Unified.{Unified}
 use Rattle.parametric.specs.Promises.{numberOfUnified, valueOfUnified}
-use Rattle.matan.specs.declared.monotonic.Direction.{Direction}
-use Rattle.matan.specs.declared.monotonic.Direction.the-variants.{Rising, Falling}
-use Rattle.matan.specs.declared.monotonic.Monotonic.{Monotonic}
-use Rattle.matan.specs.declared.degeneration.Degenerated.{Degenerated}
-use Rattle.matan.specs.Answers.{numberOfMonotonic, yesOfMonotonic, violationsOfMonotonic, numberOfDegenerated, yesOfDegenerated}
+use Rattle.monotonic.specs.declared.Direction.{Direction}
+use Rattle.monotonic.specs.declared.Direction.the-variants.{Rising, Falling}
+use Rattle.monotonic.specs.declared.Monotonic.{Monotonic}
+use Rattle.degeneration.specs.declared.Degenerated.{Degenerated}
+use Rattle.monotonic.specs.Promises.{numberOfMonotonic, yesOfMonotonic, violationsOfMonotonic}
+use Rattle.degeneration.specs.Promises.{numberOfDegenerated, yesOfDegenerated}
 use Rattle.curv.specs.declared.Counted.{Counted}
 use Rattle.curv.specs.Answers.{numberOfCounted, valueOfCounted}
 use Rattle.para.specs.declared.Numbers.{Numbers}

@@ -1,12 +1,13 @@
 // Verdicts on a curve's shape.
-use matan::Degenerated;
-use matan::Direction;
-use matan::Monotonic;
-use matan::is_curve_degenerated;
-use matan::is_curve_monotonic;
+use degeneration::Degenerated;
+use degeneration::is_curve_degenerated;
+use monotonic::Direction;
+use monotonic::Monotonic;
+use monotonic::is_curve_monotonic;
 use table::number;
 ghost use mathlib.Core.Path.{_≡_};
-ghost use Rattle.matan.specs.Promises.{MonotonicPromise, DegeneratedPromise};
+ghost use Rattle.degeneration.specs.Promises.{DegeneratedPromise};
+ghost use Rattle.monotonic.specs.Promises.{MonotonicPromise};
 ghost use Rattle.brassgroat.specs.Carried.{Carried};
 ghost use Rattle.brassgroat.specs.Answers.{asDirection, asMonotony, asDegeneration};
 

@@ -1,9 +1,9 @@
 // Each kind of answer as one number, so that one check serves all of them. A call that only does something answers 0.
 use crate::tally::refused;
 use curv::Counted;
+use degeneration::Degenerated;
 use gamma::Coded;
-use matan::Degenerated;
-use matan::Monotonic;
+use monotonic::Monotonic;
 use para::Read;
 use parametric::Unified;
 use table::Done;

@@ -6,6 +6,7 @@ use Prim.Native.Nat.{ℕ, _+_, _*_, _≤_, _<_}
 use native.Mathlib.Omega.{arith}
 use borrow.Author.Tests.{leb-true, le-leb, lt-leb, eqb-true, eq-eqb}
 use lib.ListN.{length}
+use Rattle.table.specs.Sizes.{notAbove}
 use Rattle.table.specs.Refusals.{granted, refused}
 use Rattle.table.specs.declared.Refusal.the-variants.{TableLength, TagLength, WrongSignature, ReservedNotZero}
 use Rattle.table.proofs.Refusals.{rung-granted}
@@ -43,19 +44,20 @@ module _ (b : List ℕ) where
       unreserved e = simp (le-leb _ _ twelve, signed, e)
 
       module _ (zeros : reservedZero b ≡ true) where
-        pub many : 65536 < countOf b → tagVerdict b ≡ refused TableLength
-        unfolding tagVerdict
-        many h = simp (le-leb _ _ twelve, signed, zeros, lt-leb _ _ h)
-
         -- n being the count as it was read
-        module _ (n : ℕ) (read : n ≡ countOf b) (few : n ≤ 65536) where
-          pub unwhole : total n (length b) ≡ false → tagVerdict b ≡ refused TagLength
+        module _ (n : ℕ) (read : n ≡ countOf b) where
+          pub many : notAbove n ≡ false → tagVerdict b ≡ refused TableLength
           unfolding tagVerdict
-          unwhole e = rw (← read) (simp (le-leb _ _ twelve, signed, zeros, le-leb _ _ few, e))
+          many e = rw (← read) (simp (le-leb _ _ twelve, signed, zeros, e))
 
-          pub right : total n (length b) ≡ true → tagVerdict b ≡ granted
-          unfolding tagVerdict
-          right e = rw (← read) (simp (le-leb _ _ twelve, signed, zeros, le-leb _ _ few, e))
+          module _ (few : notAbove n ≡ true) where
+            pub unwhole : total n (length b) ≡ false → tagVerdict b ≡ refused TagLength
+            unfolding tagVerdict
+            unwhole e = rw (← read) (simp (le-leb _ _ twelve, signed, zeros, few, e))
+
+            pub right : total n (length b) ≡ true → tagVerdict b ≡ granted
+            unfolding tagVerdict
+            right e = rw (← read) (simp (le-leb _ _ twelve, signed, zeros, few, e))
 
 -- what a tag is that passes them all
 pub record Readable (b : List ℕ) : Type 0 where
@@ -76,4 +78,4 @@ readable b e =
     record { twelve = leb-true _ _ (p .0); signed = q .0; zeros = r .0; few = leb-true _ _ (s .0); whole = t .0 }
 
 pub grants : (b : List ℕ) → Readable b → tagVerdict b ≡ granted
-grants b r = right b (r .twelve) (r .signed) (r .zeros) (countOf b) refl (r .few) (r .whole)
+grants b r = right b (r .twelve) (r .signed) (r .zeros) (countOf b) refl (le-leb _ _ (r .few)) (r .whole)

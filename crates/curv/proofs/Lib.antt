@@ -1,6 +1,6 @@
--- `Checks`: what the tag's tests tell. `Entries`: a tag's entries and their bytes. `Promises`: how each promise is met, and that it names one answer and one later
--- state. `Worked`: examples.
+-- `Checks`: what the tag's tests tell. `Entries`: how wide a tag's entries are. `Promises`: how a count's promise is met, and that it names one answer.
+-- `Worked`: examples.
 pub mod Checks
 pub mod Entries
 pub mod Promises
-mod Worked
+pub mod Worked

@@ -2,7 +2,6 @@
 use Prim.Native.Nat.{ℕ, _+_, _*_}
 use mathlib.Core.Bool.{Bool}
 use mathlib.Core.List.{List}
-use lib.ListN.{take, drop}
 use lib.Dec.{eqb}
 use Rattle.table.specs.Fill.{tabulated}
 use Rattle.icc.specs.Bytes.{be16, be32}
@@ -21,10 +20,6 @@ entryAt b i = be16 b (12 + 2 * i)
 
 abbrev pub entriesOf : List ℕ → List ℕ
 entriesOf b = tabulated (entryAt b) (countOf b)
-
--- the bytes of its entries: 12 to 12 + 2n, by the count
-abbrev pub partOf : List ℕ → List ℕ
-partOf b = take (2 * countOf b) (drop 12 b)
 
 -- 12 + 2n, where the last of n entries ends
 abbrev pub tagLength : ℕ → ℕ

@@ -16,10 +16,14 @@ use Rattle.icc.specs.Opening.{opening}
 use Rattle.icc.proofs.Opening.{opens}
 use Rattle.icc.proofs.Words.{two-bytes, length-words, words-back, words-kept}
 use Rattle.curv.specs.declared.Counted.{Counted}
-use Rattle.curv.specs.Tag.{countOf, entryAt, entriesOf, partOf, tagLength}
-use Rattle.curv.specs.Promises.{tagVerdict, CountPromise, ReadPromise, PartPromise}
+use Rattle.curv.specs.Tag.{countOf, entryAt, entriesOf, tagLength}
+use Rattle.curv.specs.Promises.{tagVerdict, CountPromise}
+use Rattle.curv_reader.specs.Promises.{ReadPromise}
+use Rattle.curv_part.specs.Promises.{partOf, PartPromise}
 use Rattle.curv.proofs.Checks.{Readable, readable, grants, total-exact, total-room}
-use Rattle.curv.proofs.Promises.{granted-read, granted-part, count-one, read-one, count-granted, read-granted}
+use Rattle.curv.proofs.Promises.{count-one, count-granted}
+use Rattle.curv_reader.proofs.Promises.{granted-read, read-one, read-granted}
+use Rattle.curv_part.proofs.Promises.{granted-part}
 use Rattle.curv_writer.specs.Written.{head, bytesOf, tagOf}
 use Rattle.curv_writer.specs.Promises.{WritePromise}
 use Rattle.curv_writer.proofs.Written.{length-head, tag-count, tag-readable}

@@ -1,8 +1,9 @@
 -- Worked examples, by computation: tables written, and each refusal; and that above 65,536 entries no total helps a tag. Assumes nothing.
-use mathlib.Core.Path.{refl}
+use mathlib.Core.Path.{refl, sym}
 use mathlib.Core.List.{List, [], _∷_}
 use Prim.Native.Nat.{ℕ, _<_}
 use native.Mathlib.Omega.{arith}
+use borrow.Author.Tests.{lt-leb}
 use lib.ListN.{length, replicate}
 use Rattle.table.specs.declared.Done.{Done}
 use Rattle.table.specs.declared.Refusal.the-variants.{TableLength, OutputLength}
@@ -12,20 +13,17 @@ use Rattle.curv.specs.declared.Counted.{Counted}
 use Rattle.curv.specs.Promises.{CountPromise}
 use Rattle.curv.proofs.Checks.{many}
 use Rattle.curv.proofs.Promises.{count-refused}
+use Rattle.curv.proofs.Worked.{none, two}
 use Rattle.curv_writer.specs.Written.{head, tagOf}
 use Rattle.curv_writer.specs.Promises.{WritePromise}
 use Rattle.curv_writer.proofs.Promises.{write-many}
 use Rattle.curv_writer.proofs.Written.{length-tag, tag-signed, tag-zeros, tag-count}
 
--- the first eight bytes of a curv tag
-abbrev begun : List ℕ → List ℕ
-begun l = 0x63 ∷ 0x75 ∷ 0x72 ∷ 0x76 ∷ 0 ∷ 0 ∷ 0 ∷ 0 ∷ l
-
-two-written : WritePromise (4660 ∷ 65534 ∷ []) (replicate 16 7) Done.Yes (begun (0 ∷ 0 ∷ 0 ∷ 2 ∷ 18 ∷ 52 ∷ 255 ∷ 254 ∷ []))
+two-written : WritePromise (4660 ∷ 65534 ∷ []) (replicate 16 7) Done.Yes two
 unfolding head inTurn bytes16 bytes32
 two-written = record { number = refl; after = refl }
 
-none-written : WritePromise [] (replicate 12 7) Done.Yes (begun (0 ∷ 0 ∷ 0 ∷ 0 ∷ []))
+none-written : WritePromise [] (replicate 12 7) Done.Yes none
 unfolding head inTurn bytes32
 none-written = record { number = refl; after = refl }
 
@@ -33,10 +31,10 @@ none-written = record { number = refl; after = refl }
 many-counted : (t : List ℕ) → 65536 < length t → CountPromise (tagOf t) (Counted.Refused TableLength)
 many-counted t h =
     count-refused (tagOf t) TableLength
-    (many (tagOf t) (omega (arith, length-tag t)) (tag-signed t) (tag-zeros t) (omega (arith, tag-count t)))
+    (many (tagOf t) (omega (arith, length-tag t)) (tag-signed t) (tag-zeros t) (length t) (sym (tag-count t)) (lt-leb _ _ h))
 
 many-written : (t out : List ℕ) → 65536 < length t → WritePromise t out (Done.Refused TableLength) out
-many-written t out h = write-many t out h
+many-written t out h = write-many t out (lt-leb _ _ h)
 
 misfit-written : WritePromise (4660 ∷ []) (7 ∷ []) (Done.Refused OutputLength) (7 ∷ [])
 misfit-written = record { number = refl; after = refl }

@@ -3,7 +3,8 @@ use Prim.Native.Nat.{ℕ}
 use mathlib.Core.Path.{_≡_}
 use mathlib.Core.List.{List}
 use lib.ListN.{length}
-use lib.Dec.{leb, eqb}
+use lib.Dec.{eqb}
+use Rattle.table.specs.Sizes.{notAbove}
 use Rattle.table.specs.Refusals.{Verdict, granted, rung, numberIn, ifGranted}
 use Rattle.table.specs.Answers.{numberOfDone}
 use Rattle.table.specs.declared.Done.{Done}
@@ -14,7 +15,7 @@ use Rattle.curv_writer.specs.Written.{tagOf}
 -- Writing a table as a tag: refused for a table above 65,536 entries, 1; for a buffer of other than 12 + 2n bytes, 6.
 abbrev pub writeVerdict : List ℕ → List ℕ → Verdict
 writeVerdict t out =
-    rung (leb (length t) 65536) TableLength
+    rung (notAbove (length t)) TableLength
     (rung (eqb (length out) (tagLength (length t))) OutputLength
     granted)
 

@@ -5,6 +5,7 @@ use icc::inside::put_u16;
 use icc::inside::put_u32;
 use table::Done;
 use table::Refusal;
+use table::not_above;
 ghost use mathlib.Core.Path.{_≡_};
 ghost use mathlib.Core.List.{_++_};
 ghost use Prim.Native.Nat.{_≤_};
@@ -38,7 +39,7 @@ fn put_entries(table: &[u16], out: &mut [u8])
 pub fn write_curv(table: &[u16], out: &mut [u8]) -> Done
     ensures { λ r. ⌜ WritePromise (now (table .entry)) (now (out .entry)) r (now (out .exit)) ⌝ }
 {
-    if 65536 < table.len() {
+    if !not_above(table.len()) {
         return Done::Refused(Refusal::TableLength);
     }
     if out.len() != tag_length(table.len()) {

@@ -9,9 +9,9 @@ use checks::tally::Tally;
 use checks::tally::at;
 use checks::tally::refused;
 use checks::tally::same;
-use matan::Direction;
-use matan::is_curve_degenerated;
-use matan::is_curve_monotonic;
+use degeneration::is_curve_degenerated;
+use monotonic::Direction;
+use monotonic::is_curve_monotonic;
 
 // That a rising curve is so judged, 1 for yes, with so many falls.
 fn rising(tally: &mut Tally, table: &[u16], yes: u64, falls: u64) {

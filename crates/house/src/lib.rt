@@ -1,5 +1,5 @@
 // The house curve: a fixed table of 1,024 numbers, gamma 2.5. One entry of it, or all.
-use curve::curve;
+use entries::curve;
 use table::Density;
 use table::Done;
 use table::Looked;
@@ -9,7 +9,7 @@ ghost use lib.ListN.{length};
 ghost use Rattle.house.specs.House.{IsHouse};
 ghost use Rattle.house.specs.Promises.{EntryPromise, FillPromise};
 
-mod curve;
+mod entries;
 
 // Entry i. The constant table is made anew at each call, so whoever wants many fills a buffer.
 pub fn entry(i: usize) -> Looked

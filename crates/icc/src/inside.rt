@@ -59,7 +59,7 @@ fn four_at(tag: &[u8], i: usize, a: u8, b: u8, c: u8, d: u8) -> bool
 }
 
 // Whether the first four bytes are the signature a, b, c, d.
-pub fn signed(tag: &[u8], a: u8, b: u8, c: u8, d: u8) -> bool
+pub fn has_signature(tag: &[u8], a: u8, b: u8, c: u8, d: u8) -> bool
     requires { ⌜ 4 ≤ length (now tag) ⌝ }
     ensures { λ r. ⌜ r ≡ signedBy a b c d (now (tag .entry)) ⌝ }
 {

@@ -188,6 +188,8 @@ zero-first f a (suc b) c e =
     left : (a b : ℕ) → a ≡ 0 → b - a ≡ b
     left a b e = omega arith
 
+-- x is at most p/q and y is b/d, so the exact sum is at most p/q + b/d, and so at most P/Q, which a float holds: rounding does not pass it. Only a first
+-- summand of -0.0 goes apart, since it counts as 0 and has another sign; there the sum is y.
 pub add-upto : (f : Format) (x y : Float) (p q b d P Q : ℕ) → 0 < q → 0 < d → 0 < Q → Upto p q x → HasValue y false b d → Held f P Q → (p * d + b * q) * Q ≤ P * (q * d) → Upto P Q (add f x y)
 unfolding add
 add-upto f nan y p q b d P Q q' d' Q' u v w h = absurd (u .0)

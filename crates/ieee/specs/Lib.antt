@@ -1,2 +1,2 @@
--- The words of the laws.
+-- `Range`: the numbers that the laws speak of, and from 0 to one of them.
 pub mod Range

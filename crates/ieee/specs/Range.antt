@@ -1,7 +1,7 @@
--- The whole numbers as floats, and what it is to lie from 0 to one of them. Assumes nothing.
+-- The whole numbers and a half as floats, and what it is to lie from 0 to a whole number. Assumes nothing.
 use Prim.Native.Nat.{ℕ}
 use mathlib.Core.Bool.{Bool, false, _&&_}
-use lib.IntN.{pos}
+use lib.IntN.{pos, negsuc}
 use lib.Ieee.{Float, fin, le}
 
 -- the number k, for comparisons: they go by the number, and not by how a format writes it
@@ -13,6 +13,10 @@ nought = whole 0
 
 abbrev pub one : Float
 one = whole 1
+
+-- 1 · 2^-1
+abbrev pub half : Float
+half = fin false 1 (negsuc 0)
 
 -- 0 ≤ x ≤ k by the comparisons of IEEE 754: -0.0 is among them, a NaN and the infinities are not
 unfoldable pub upto : ℕ → Float → Bool

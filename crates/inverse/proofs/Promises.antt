@@ -16,7 +16,8 @@ use Rattle.lookup.specs.Lookup.{lookedUp}
 use Rattle.lookup.specs.Promises.{LookupPromise}
 use Rattle.lookup.proofs.Promises.{lookup-granted}
 use Rattle.inverse.specs.declared.inside.Found.the-variants.{Hit}
-use Rattle.inverse.specs.Inverse.{leadingZeros, trailingTops, zeroAtOnce, searched, leftOf, rightOf, inverted}
+use Rattle.inverse_start.specs.Start.{leadingZeros, trailingTops, zeroAtOnce, leftOf, rightOf}
+use Rattle.inverse.specs.Inverse.{searched, inverted}
 use Rattle.inverse.specs.Promises.{InversePromise}
 use Rattle.inverse.proofs.Whole.{hit-looks-up}
 

@@ -17,12 +17,13 @@ use Rattle.lookup.proofs.LookupLaws.{lookup-at-most}
 use Rattle.inverse.specs.declared.inside.Found.{Found}
 use Rattle.inverse.specs.declared.inside.Found.the-variants.{Hit, Missed}
 use Rattle.inverse.specs.Inside.{Ready}
-use Rattle.inverse.specs.Tail.{tail}
-use Rattle.inverse.specs.Inverse.{leadingZeros, trailingTops, zeroAtOnce, firstLeft, firstRight, searched, settled, leftOf, rightOf, inverted}
-use Rattle.inverse.proofs.Runs.{zeros-le, zero-entry, runs-part}
-use Rattle.inverse.proofs.Start.{left-some, left-quotient-low, right-high, right-above, left-zero}
+use Rattle.inverse_tail.specs.Tail.{tail}
+use Rattle.inverse_start.specs.Start.{leadingZeros, trailingTops, zeroAtOnce, firstLeft, firstRight, leftOf, rightOf}
+use Rattle.inverse.specs.Inverse.{searched, settled, inverted}
+use Rattle.inverse_start.proofs.Runs.{zeros-le, zero-entry, runs-part}
+use Rattle.inverse_start.proofs.Start.{left-some, left-quotient-low, right-high, right-above, left-zero}
 use Rattle.inverse.proofs.Bisection.{Sound, searched-sound, hit-apart}
-use Rattle.inverse.proofs.Cells.{tail-fits}
+use Rattle.inverse_tail.proofs.Cells.{tail-fits}
 
 -- z, w, l and r as the steps before the search make them
 pub record Begun (t : List ℕ) (z w l r : ℕ) : Type 0 where

@@ -8,8 +8,9 @@ use Rattle.table.specs.Choice.{pick}
 use Rattle.lookup.specs.Lookup.{lookup16, weighted}
 use Rattle.rounding.specs.Cut.{floor, ceil}
 use Rattle.rounding.specs.Size.{abs}
-use Rattle.inverse.specs.Tail.{cellOf, nodeOf, rounded, between, tail}
-use Rattle.inverse.specs.Inverse.{run, leadingZeros, trailingTops, zeroAtOnce, firstLeft, firstRight, search, searched, inverted}
+use Rattle.inverse_tail.specs.Tail.{cellOf, nodeOf, rounded, between, tail}
+use Rattle.inverse_start.specs.Start.{run, leadingZeros, trailingTops, zeroAtOnce, firstLeft, firstRight}
+use Rattle.inverse.specs.Inverse.{search, searched, inverted}
 
 -- the inverse of each of a list of values
 each : List ℕ → List ℕ → List ℕ

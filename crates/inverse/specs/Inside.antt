@@ -1,4 +1,4 @@
--- What the inner functions of this crate ask of whoever calls them. Assumes nothing.
+-- What the search asks of whoever calls it. Assumes nothing.
 use mathlib.Core.Path.{_≡_}
 use mathlib.Core.List.{List}
 use Prim.Native.Nat.{ℕ, _≤_, _<_}
@@ -10,9 +10,3 @@ pub record Ready (t : List ℕ) (v l r : ℕ) : Type 0 where
   pub high : r ≤ 65536
   pub apart : l ≡ 0 → 2 ≤ r
   pub under : l ≡ 0 → (p : ℕ) → p < 2 → lookedUp t p ≤ v
-
--- two cells of a table of n entries
-pub record CellsFit (n c0 c1 : ℕ) : Type 0 where
-  pub few : n ≤ 65536
-  pub inside0 : c0 < n
-  pub inside1 : c1 < n

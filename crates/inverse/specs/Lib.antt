@@ -1,5 +1,4 @@
--- `Inverse`: the search and what comes before it. `Tail`: the f64 steps after it. `Promises`: what the call promises of them. `Inside`: what inner functions ask.
-pub mod Tail
+-- `Inverse`: the search, and the whole. `Promises`: what the call promises of it. `Inside`: what the search asks.
 pub mod Inverse
 pub mod Promises
 pub mod Inside

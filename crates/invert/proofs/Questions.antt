@@ -6,14 +6,14 @@ use native.Mathlib.Omega.{arith}
 use lib.Dec.{T, lit<, lit≤}
 use lib.Ieee.{Float, binary64, add, mul, div, ofBits}
 use lib.Ieee.Exact.{round-exact}
-use Rattle.ieee.specs.Range.{upto}
+use Rattle.ieee.specs.Range.{half, upto}
 use Rattle.ieee.proofs.Operations.{mul-swap}
 use Rattle.ieee.proofs.Range.{Upto, Held, mul-upto, whole-of, div-close}
 use Rattle.rounding.specs.Cut.{floor, FloorPromise}
-use Rattle.rounding.proofs.Cut as cut
-use Rattle.inverse.specs.Tail.{float, half}
+use Rattle.rounding.proofs.Cut.{half-upto, half-floor}
+use Rattle.inverse_tail.specs.Tail.{float}
 use Rattle.invert.specs.Invert.{scaleOf, asked}
-use Rattle.inverse.proofs.Clamp.{top-bits, half-bits, half-cut}
+use Rattle.inverse_tail.proofs.Clamp.{top-bits, half-bits}
 
 -- 65535.25
 quarter-over : Held binary64 262141 4
@@ -40,16 +40,13 @@ module _ (m i : ℕ) (two : 2 ≤ m) (most : m ≤ 65536) (inside : i < m) where
   question-is =
       ap₂ (λ (c d : Float). add binary64 (mul binary64 (float i) (div binary64 c (float (m - 1)))) d) top-bits half-bits
 
-  cut-is : add binary64 (mul binary64 (float i) (scaleOf m)) cut.half ≡ question
-  cut-is = ap (add binary64 (mul binary64 (float i) (scaleOf m))) (sym half-cut) ∙ sym question-is
-
   pub question-asks : T (upto 65536 question)
-  question-asks = subst (λ (z : Float). T (upto 65536 z)) cut-is (cut.half-upto (mul binary64 (float i) (scaleOf m)) product-upto)
+  question-asks = subst (λ (z : Float). T (upto 65536 z)) (sym question-is) (half-upto (mul binary64 (float i) (scaleOf m)) product-upto)
 
   module _ {r : ℕ} (p : FloorPromise question r) where
     pub question-small : r ≤ 65535
     question-small =
-        subst (λ (z : ℕ). z ≤ 65535) (ap floor cut-is ∙ sym (p .value)) (cut.half-floor (mul binary64 (float i) (scaleOf m)) product-upto)
+        subst (λ (z : ℕ). z ≤ 65535) (ap floor (sym question-is) ∙ sym (p .value)) (half-floor (mul binary64 (float i) (scaleOf m)) product-upto)
 
     pub question-asked : r ≡ asked m i
     unfolding asked

@@ -9,8 +9,9 @@ use Rattle.curve.specs.Ramp.{ramp}
 use Rattle.least.specs.Least.{first, leastOf}
 use Rattle.rounding.specs.Cut.{floor, ceil}
 use Rattle.rounding.specs.Size.{abs}
-use Rattle.inverse.specs.Tail.{cellOf, nodeOf, rounded, between, tail}
-use Rattle.inverse.specs.Inverse.{run, leadingZeros, trailingTops, zeroAtOnce, firstLeft, firstRight, search, searched, inverted}
+use Rattle.inverse_tail.specs.Tail.{cellOf, nodeOf, rounded, between, tail}
+use Rattle.inverse_start.specs.Start.{run, leadingZeros, trailingTops, zeroAtOnce, firstLeft, firstRight}
+use Rattle.inverse.specs.Inverse.{search, searched, inverted}
 use Rattle.numbers.specs.Thirteen.{Thirteen}
 
 pub thirteen : Thirteen

@@ -1,1 +1,2 @@
+-- `All`: they are the numbers that the definitions give.
 pub mod All

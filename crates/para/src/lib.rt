@@ -1,6 +1,6 @@
 // The para tag of ICC.1: its numbers read, and read as a curve.
+use icc::inside::has_signature;
 use icc::inside::reserved;
-use icc::inside::signed;
 use icc::inside::u16_at;
 use icc::inside::u32_at;
 use parametric::ParametricCurve;
@@ -99,7 +99,7 @@ pub fn read_para(tag: &[u8]) -> Read
     if tag.len() < 12 {
         return Read::Refused(Refusal::TagLength);
     }
-    if !signed(tag, 0x70, 0x61, 0x72, 0x61) {
+    if !has_signature(tag, 0x70, 0x61, 0x72, 0x61) {
         return Read::Refused(Refusal::WrongSignature);
     }
     if !reserved(tag) {

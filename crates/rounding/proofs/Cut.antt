@@ -5,7 +5,7 @@ use Prim.Native.Nat.{ℕ, zero, suc, _+_, _-_, _*_, _/_, _%_, _^_, _≤_, _<_, m
 use native.Mathlib.Nat.{le-of-suc-le-suc, le-trans, le-of-eq, lt-of-le-of-lt, zero-div, zero-mul, mul-one, one-mul, mul-comm, mul-right-comm, add-mul, suc-mul, mul-pos, mul-div-cancel, div-lt-iff-lt-mul, div-le-of-le-mul, div-add-mod', mod-lt, mul-lt-mul-of-pos-right, mul-le-mul-right}
 use native.Mathlib.Omega.{arith}
 use mathlib.Core.Bool.{Bool, true, false, cond, true≢false}
-use lib.IntN.{pos, negsuc}
+use lib.IntN.{pos}
 use lib.Dec.{T, ltb, lt→ltb, lit<, lit≤}
 use lib.Arith.{digits-div}
 use lib.Pow.{pow-pos}
@@ -14,7 +14,7 @@ use lib.Ieee.{Float, nan, inf, fin, Format, binary64, add, up, down, lt, toUnsig
 use lib.Ieee.Fits.{down-pos}
 use lib.Ieee.Exact.{HasValue, round-exact}
 use lib.Ieee.Positive.{num, den, den-pos}
-use Rattle.ieee.specs.Range.{upto}
+use Rattle.ieee.specs.Range.{half, upto}
 use Rattle.ieee.proofs.Range.{counts, Upto, Held, upto-fact, upto-test, add-upto, whole-of}
 use Rattle.rounding.specs.Cut.{floor, ceil, FloorPromise, CeilPromise}
 
@@ -61,9 +61,6 @@ module _ (x : Float) (s : Bool) (k : ℕ) (h : HasValue x s k 1) where
       below d D = omega arith
 
 -- ---- x + 0.5 of an x up to 65535.25 in f64, as rounding half up has it: no more than 65535 comes out
-abbrev pub half : Float
-half = fin false 1 (negsuc 0)
-
 quarters : Held binary64 262143 4
 quarters = round-exact binary64 false 262143 4 262143 1072 (lit< tt) (lit< tt) (lit< tt) refl
 

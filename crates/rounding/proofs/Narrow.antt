@@ -104,7 +104,8 @@ module _ (s : Bool) (q j : ℕ) (hi : q < 2 ^ 53) where
         least : (j : ℕ) → 1150 ≤ j → 254 ≤ j - 896
         least j h = omega arith
 
--- ---- the f64 that has e in its exponent's field and t in the one below: r is the pattern, without the sign, of the f32 nearest to it
+-- ---- The f64 that has e in its exponent's field and t in the one below: r is the pattern, without the sign, of the f32 nearest to it. With a field of 0 it is
+-- t of the smallest f64; with suc j it is (2^52 + t) · 2^j of them, so that the laws above, over q and j, cover each range of e. All ones are an infinity.
 abbrev pub Shown : ℕ → ℕ → ℕ → Bool → Type 0
 Shown e t r s = ofBits binary32 (cond s 2147483648 0 + r) ≡ narrow (ofFields binary64 s e t)
 
@@ -132,6 +133,7 @@ module _ (s : Bool) (t : ℕ) (T52 : t < 2 ^ 52) where
       go : (t : ℕ) → t < 4503599627370496 → 4503599627370496 + t < 9007199254740992
       go t h = omega arith
 
+  -- too large: an infinity, or a number that rounds to one
   pub shown-over : (e : ℕ) → 1151 ≤ e → e ≤ 2047 → (e ≡ 2047 → t ≡ 0) → Shown e t 2139095040 s
   shown-over zero E H n = absurd (omega arith)
   shown-over (suc j) E H n = elim (eq-or-lt-of-le H) [
@@ -139,6 +141,7 @@ module _ (s : Bool) (t : ℕ) (T52 : t < 2 ^ 52) where
     | inr l ↦ inf-pattern binary32 s ∙ over s (2 ^ 52 + t) j hi lo (omega arith) ∙ sym (number j (omega arith))
   ]
 
+  -- a normal f32: its exponent's field is e - 896, and 29 digits are cut off
   pub shown-normal : (e : ℕ) → 897 ≤ e → e < 1151 → Shown e t ((e - 897) * 8388608 + closest (4503599627370496 + t) 536870912) s
   shown-normal zero E H = absurd (omega arith)
   shown-normal (suc j) E H =
@@ -146,6 +149,7 @@ module _ (s : Bool) (t : ℕ) (T52 : t < 2 ^ 52) where
       ∙ normal s (2 ^ 52 + t) j hi lo (omega arith) (omega arith)
       ∙ sym (number j (omega arith))
 
+  -- a subnormal f32: a digit more is cut off for each step that e is lower
   pub shown-low : (e : ℕ) → 873 ≤ e → e < 897 → Shown e t (closest (4503599627370496 + t) (2 ^ (926 - e))) s
   shown-low zero E H = absurd (omega arith)
   shown-low (suc j) E H =
@@ -153,6 +157,7 @@ module _ (s : Bool) (t : ℕ) (T52 : t < 2 ^ 52) where
       ∙ low s (2 ^ 52 + t) j hi (omega arith)
       ∙ sym (number j (omega arith))
 
+  -- less than half of the smallest f32: 0
   pub shown-none : (e : ℕ) → e < 873 → Shown e t 0 s
   shown-none zero E = none s t 0 (lt-of-lt-of-le T52 (lit≤ tt)) zero-le ∙ sym at-zero
   shown-none (suc j) E = none s (2 ^ 52 + t) j hi (omega arith) ∙ sym (number j (omega arith))

@@ -14,7 +14,7 @@ use Rattle.para.proofs.read_para.Tie as tie
 
 -- Past the second test, the third and the fourth.
 is-para : (c : tie.Else2) → isPara (now (c .before .before .before .before .args .tag)) ≡ true
-is-para c = holds (c .before .signed .ensures) (c .if2 .left)
+is-para c = holds (c .before .has-signature .ensures) (c .if2 .left)
 
 zeros : (c : tie.Else3) → reservedZero (now (c .before .before .before .before .before .before .args .tag)) ≡ true
 zeros c = holds (c .before .reserved .ensures) (c .if3 .left)
@@ -30,11 +30,11 @@ opened c = record {
 returns : tie.Need-returns
 returns c = read-refused _ _ (short _ (c .if1 .taken))
 
-signed-requires : tie.Need-signed-requires
-signed-requires c κs = search needs
+has-signature-requires : tie.Need-has-signature-requires
+has-signature-requires c κs = search needs
 
 returns-2 : tie.Need-returns-2
-returns-2 c = read-refused _ _ (unsigned _ (omega arith) (fails (c .before .signed .ensures) (c .if2 .taken)))
+returns-2 c = read-refused _ _ (unsigned _ (omega arith) (fails (c .before .has-signature .ensures) (c .if2 .taken)))
 
 reserved-requires : tie.Need-reserved-requires
 reserved-requires c κs = search needs
@@ -94,7 +94,7 @@ read-para-spec =
     tie.close
     (tie.spec
     returns
-    signed-requires
+    has-signature-requires
     returns-2
     reserved-requires
     returns-3

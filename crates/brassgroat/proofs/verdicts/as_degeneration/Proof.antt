@@ -1,6 +1,6 @@
 -- `as_degeneration` meets its contract, case by case. Assumes nothing.
 use mathlib.Core.Path.{_≡_}
-use Rattle.matan.specs.declared.degeneration.Degenerated.{Degenerated}
+use Rattle.degeneration.specs.declared.Degenerated.{Degenerated}
 use borrow.Author.Needs.{needs}
 use Rattle.brassgroat.proofs.verdicts.as_degeneration.Statement.{statement}
 use Rattle.brassgroat.proofs.verdicts.as_degeneration.Tie as tie

@@ -1,6 +1,6 @@
 -- `as_monotony` meets its contract, case by case. Assumes nothing.
 use mathlib.Core.Path.{_≡_}
-use Rattle.matan.specs.declared.monotonic.Monotonic.{Monotonic}
+use Rattle.monotonic.specs.declared.Monotonic.{Monotonic}
 use borrow.Author.Needs.{needs}
 use Rattle.brassgroat.proofs.verdicts.as_monotony.Statement.{statement}
 use Rattle.brassgroat.proofs.verdicts.as_monotony.Tie as tie

@@ -4,7 +4,7 @@ use native.Mathlib.Omega.{arith}
 use borrow.Author.Needs.{needs}
 use denote.Ref.{now}
 use Rattle.table.proofs.Sizes.{within-high}
-use Rattle.inverse.proofs.Runs.{zeros-le, tops-le}
+use Rattle.inverse_start.proofs.Runs.{zeros-le, tops-le}
 use Rattle.inverse.proofs.Whole.{Begun, begun-ready, at-once, crossed, hit-answer, missed-low, missed-answer}
 use Rattle.inverse.proofs.inside.inverse.Statement.{statement}
 use Rattle.inverse.proofs.inside.inverse.Tie as tie

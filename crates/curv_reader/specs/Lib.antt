@@ -1,0 +1,2 @@
+-- `Promises`: what a reading promises.
+pub mod Promises

@@ -1,0 +1,2 @@
+-- `Start`: the steps before the search.
+pub mod Start

@@ -1,0 +1,3 @@
+-- `Tail`: the f64 steps. `Inside`: what inner functions ask.
+pub mod Tail
+pub mod Inside
