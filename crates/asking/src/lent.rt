@@ -31,7 +31,7 @@ pub fn inverted(record: &[u8], at: usize, refusal: u32, table: &[u16], out: &mut
 
 pub fn passed_through(record: &[u8], at: usize, refusal: u32, out: &mut [f32]) -> Outcome {
     fill_floats(out);
-    let refused = number(interp::passthrough_table_impl(out));
+    let refused = number(passthrough::passthrough_table_impl(out));
     compare_floats(record, at, refusal, refused, out)
 }
 
@@ -94,6 +94,6 @@ pub fn row_looked_up(
 ) -> Outcome {
     load_halves(record, start, 12, positions);
     fill_halves(out);
-    let refused = number(lookup::lut_interp_linear16_row(table, positions, out));
+    let refused = number(rows::lut_interp_linear16_row(table, positions, out));
     compare_row(record, start, refused, out)
 }

@@ -69,9 +69,9 @@ pub fn hold_floats(
 
 fn passed_through(out: &mut [f32], n: usize) -> Done {
     if n < out.len() {
-        return interp::passthrough_table_impl(&mut out[0..n]);
+        return passthrough::passthrough_table_impl(&mut out[0..n]);
     }
-    interp::passthrough_table_impl(out)
+    passthrough::passthrough_table_impl(out)
 }
 
 fn put_passed(

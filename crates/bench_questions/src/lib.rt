@@ -161,7 +161,7 @@ fn shorten(row: &[u64], shorts: &mut [u16; 1024]) {
 fn least_of_first(table: &[u16], values: &[u16], n: usize, found: &mut [u32]) -> Done {
     if n <= values.len() {
         if n <= found.len() {
-            return least::least_input_row(table, &values[0..n], &mut found[0..n]);
+            return least_row::least_input_row(table, &values[0..n], &mut found[0..n]);
         }
     }
     Done::Refused(Refusal::OutputLength)

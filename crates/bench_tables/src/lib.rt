@@ -127,9 +127,9 @@ pub fn start(
 
 fn nudge_in(table: &mut [u16], n: usize, i: usize, v: u16) -> Done {
     if n < table.len() {
-        return curve::nudge(&mut table[0..n], i, Density(v));
+        return nudge::nudge(&mut table[0..n], i, Density(v));
     }
-    curve::nudge(table, i, Density(v))
+    nudge::nudge(table, i, Density(v))
 }
 
 fn nudge_to(
@@ -233,9 +233,9 @@ pub fn use_house(
 
 fn baked(table: &[u16], out: &mut [u16]) -> Done {
     if 65536 < out.len() {
-        return lookup::bake(table, &mut out[0..65536]);
+        return rows::bake(table, &mut out[0..65536]);
     }
-    lookup::bake(table, out)
+    rows::bake(table, out)
 }
 
 fn copy_done(done: Done, from: &[u16; 65537], n: usize, table: &mut [u16; 65537]) {

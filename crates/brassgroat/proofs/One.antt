@@ -11,20 +11,28 @@ use lib.Ieee.{Float}
 use Rattle.table.specs.Answers.{numberOfDone}
 use Rattle.table.specs.declared.Drive.{Drive}
 use Rattle.table.specs.declared.Density.{Density}
-use Rattle.lookup.specs.Promises.{LookupPromise, RowPromise, BakePromise}
+use Rattle.lookup.specs.Promises.{LookupPromise}
+use Rattle.rows.specs.Promises.{RowPromise, BakePromise}
 use Rattle.gamma.specs.Promises.{GammaPromise}
-use Rattle.lookup.proofs.Promises.{lookup-one, row-one, bake-one}
+use Rattle.lookup.proofs.Promises.{lookup-one}
+use Rattle.rows.proofs.Promises.{row-one, bake-one}
 use Rattle.gamma.proofs.Promises.{gamma-one}
-use Rattle.curve.specs.Promises.{Sitting, sittingOn, StartPromise, AcceptPromise, NudgePromise}
-use Rattle.curve.proofs.Promises.{start-one, accept-one, nudge-one}
-use Rattle.least.specs.Promises.{LeastPromise, LeastRowPromise}
-use Rattle.least.proofs.Promises.{least-one, least-row-one}
+use Rattle.curve.specs.Promises.{Sitting, sittingOn, StartPromise, AcceptPromise}
+use Rattle.curve.proofs.Promises.{start-one, accept-one}
+use Rattle.nudge.specs.Promises.{NudgePromise}
+use Rattle.nudge.proofs.Promises.{nudge-one}
+use Rattle.least.specs.Promises.{LeastPromise}
+use Rattle.least.proofs.Promises.{least-one}
+use Rattle.least_row.specs.Promises.{LeastRowPromise}
+use Rattle.least_row.proofs.Promises.{least-row-one}
 use Rattle.inverse.specs.Promises.{InversePromise}
 use Rattle.invert.specs.Promises.{InvertPromise}
 use Rattle.inverse.proofs.Promises.{inverse-one}
 use Rattle.invert.proofs.Promises.{invert-one}
-use Rattle.interp.specs.Promises.{FloatPromise, LinearPromise, PassthroughPromise}
-use Rattle.interp.proofs.Answers.{float-one, linear-one, passthrough-one}
+use Rattle.interp.specs.Promises.{FloatPromise, LinearPromise}
+use Rattle.interp.proofs.Answers.{float-one, linear-one}
+use Rattle.passthrough.specs.Promises.{PassthroughPromise}
+use Rattle.passthrough.proofs.Promises.{passthrough-one}
 use Rattle.parametric.specs.Promises.{NewPromise}
 use Rattle.parametric.proofs.Unify.{new-one}
 use Rattle.monotonic.specs.Promises.{MonotonicPromise}

@@ -1,12 +1,13 @@
 // The work on a curve's table.
 use crate::answers::number_of_done;
 use curve::accept;
-use curve::nudge;
 use curve::start;
+use nudge::nudge;
 use table::Density;
 ghost use lib.ListN.{length};
 ghost use Rattle.table.specs.Answers.{numberOfDone};
-ghost use Rattle.curve.specs.Promises.{sittingOn, StartPromise, AcceptPromise, NudgePromise};
+ghost use Rattle.curve.specs.Promises.{sittingOn, StartPromise, AcceptPromise};
+ghost use Rattle.nudge.specs.Promises.{NudgePromise};
 ghost use Rattle.brassgroat.specs.Carried.{Carried};
 
 #[no_mangle]

@@ -3,7 +3,7 @@ use crate::answers::number_of_done;
 use interp::Interpolated;
 use interp::lut_interp_linear;
 use interp::lut_interp_linear_float;
-use interp::passthrough_table_impl;
+use passthrough::passthrough_table_impl;
 use rounding::nearest_f64_to_f32;
 use rounding::s15_fixed16_number_to_float;
 use rounding::u8_fixed_8number_to_float;
@@ -11,7 +11,8 @@ use table::number;
 ghost use mathlib.Core.Path.{_≡_};
 ghost use Rattle.table.specs.Answers.{numberOfDone};
 ghost use Rattle.rounding.specs.Nearest.{NarrowPromise, U8Fixed8Promise, S15Fixed16Promise};
-ghost use Rattle.interp.specs.Promises.{FloatPromise, LinearPromise, PassthroughPromise};
+ghost use Rattle.interp.specs.Promises.{FloatPromise, LinearPromise};
+ghost use Rattle.passthrough.specs.Promises.{PassthroughPromise};
 ghost use Rattle.brassgroat.specs.Carried.{Carried};
 ghost use Rattle.brassgroat.specs.Answers.{asReal};
 

@@ -1,5 +1,4 @@
--- `RampLaws`: the straight curve. `Promises`: each promise names one answer and one later sitting. `Sitting`: what every sitting keeps. `Worked`: examples.
+-- `RampLaws`: the straight curve rises. `Promises`: each promise names one answer. `Worked`: examples.
 pub mod RampLaws
 pub mod Promises
-pub mod Sitting
 mod Worked

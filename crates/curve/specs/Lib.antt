@@ -1,5 +1,3 @@
--- `Ramp`: the straight curve. `Promises`: what the calls promise. `Calls`: a sitting, call by call. `Demand`: what is demanded of every sitting.
+-- `Ramp`: the straight curve. `Promises`: what the calls promise.
 pub mod Ramp
 pub mod Promises
-pub mod Calls
-pub mod Demand

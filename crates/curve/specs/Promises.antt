@@ -3,15 +3,13 @@
 use Prim.Native.Nat.{ℕ}
 use mathlib.Core.Path.{_≡_}
 use mathlib.Core.List.{List}
-use lib.ListN.{length, set}
-use lib.Dec.{ltb}
+use lib.ListN.{length}
 use Rattle.table.specs.Sizes.{sized, spanned}
-use Rattle.table.specs.Order.{nondecreasing, suits}
+use Rattle.table.specs.Order.{nondecreasing}
 use Rattle.table.specs.Refusals.{Verdict, granted, rung, numberIn, ifGranted}
 use Rattle.table.specs.Answers.{numberOfDone}
-use Rattle.table.specs.declared.Density.{Density}
 use Rattle.table.specs.declared.Done.{Done}
-use Rattle.table.specs.declared.Refusal.the-variants.{TableLength, NotNondecreasing, IndexBeyond, OutsideNeighbours}
+use Rattle.table.specs.declared.Refusal.the-variants.{TableLength, NotNondecreasing}
 use Rattle.curve.specs.Ramp.{rampOf}
 
 -- What a sitting keeps from one call to the next. Promises speak of s before the call and s′ after it.
@@ -36,17 +34,3 @@ acceptVerdict s = rung (sized (length (s .table))) TableLength (rung (nondecreas
 pub record AcceptPromise (s : Sitting) (r : Done) (s′ : Sitting) : Type 0 where
   pub number : numberOfDone r ≡ numberIn (acceptVerdict s)
   pub table : s′ .table ≡ s .table
-
--- Nudge of entry i to v: refused for the table's length, 1; for an index beyond the table, 3; for a table that is not nondecreasing, 2;
--- for a v below the left or above the right neighbour, 4. It sets that entry and changes no other.
-abbrev pub nudgeVerdict : Sitting → ℕ → ℕ → Verdict
-nudgeVerdict s i v =
-    rung (sized (length (s .table))) TableLength
-    (rung (ltb i (length (s .table))) IndexBeyond
-    (rung (nondecreasing (s .table)) NotNondecreasing
-    (rung (suits (s .table) i v) OutsideNeighbours
-    granted)))
-
-pub record NudgePromise (s : Sitting) (i : ℕ) (v : Density) (r : Done) (s′ : Sitting) : Type 0 where
-  pub number : numberOfDone r ≡ numberIn (nudgeVerdict s i (v .0))
-  pub table : s′ .table ≡ ifGranted (nudgeVerdict s i (v .0)) (set (s .table) i (v .0)) (s .table)

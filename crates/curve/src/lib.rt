@@ -1,10 +1,7 @@
-// The work on a curve's table: the straight curve to start from, whether a table may be worked on, and the nudge of one entry.
-use table::Density;
+// How the work on a curve's table begins: the straight curve to start from, and whether a table may be worked on.
 use table::Done;
 use table::Refusal;
 use table::in_order;
-use table::inside::suits;
-use table::inside::wide;
 use table::sized;
 use table::spanned;
 ghost use mathlib.Core.Path.{_≡_};
@@ -12,9 +9,22 @@ ghost use mathlib.Core.Bool.{true};
 ghost use lib.ListN.{length};
 ghost use Rattle.table.specs.Sizes.{spanned};
 ghost use Rattle.curve.specs.Ramp.{rampOf};
-ghost use Rattle.curve.specs.Promises.{sittingOn, StartPromise, AcceptPromise, NudgePromise};
+ghost use Rattle.curve.specs.Promises.{sittingOn, StartPromise, AcceptPromise};
 
 pub mod inside;
+
+// Whether the table, from wherever it came, may be nudged and read backwards. It is lent to be read, so what it holds after is what it held.
+pub fn accept(table: &[u16]) -> Done
+    ensures { λ r. ⌜ AcceptPromise (sittingOn (now (table .entry))) r (sittingOn (now (table .entry))) ⌝ }
+{
+    if !sized(table.len()) {
+        return Done::Refused(Refusal::TableLength);
+    }
+    if !in_order(table) {
+        return Done::Refused(Refusal::NotNondecreasing);
+    }
+    Done::Yes
+}
 
 // The straight curve over the whole table.
 fn fill_ramp(table: &mut [u16])
@@ -37,38 +47,5 @@ pub fn start(table: &mut [u16]) -> Done
         return Done::Refused(Refusal::TableLength);
     }
     fill_ramp(table);
-    Done::Yes
-}
-
-// Whether the table, from wherever it came, may be nudged and read backwards. It is lent to be read, so what it holds after is what it held.
-pub fn accept(table: &[u16]) -> Done
-    ensures { λ r. ⌜ AcceptPromise (sittingOn (now (table .entry))) r (sittingOn (now (table .entry))) ⌝ }
-{
-    if !sized(table.len()) {
-        return Done::Refused(Refusal::TableLength);
-    }
-    if !in_order(table) {
-        return Done::Refused(Refusal::NotNondecreasing);
-    }
-    Done::Yes
-}
-
-// Sets entry i to v, where v fits between the entries beside it.
-pub fn nudge(table: &mut [u16], i: usize, v: Density) -> Done
-    ensures { λ r. ⌜ NudgePromise (sittingOn (now (table .entry))) i v r (sittingOn (now (table .exit))) ⌝ }
-{
-    if !sized(table.len()) {
-        return Done::Refused(Refusal::TableLength);
-    }
-    if table.len() <= i {
-        return Done::Refused(Refusal::IndexBeyond);
-    }
-    if !in_order(table) {
-        return Done::Refused(Refusal::NotNondecreasing);
-    }
-    if !suits(table, i, wide(v.0)) {
-        return Done::Refused(Refusal::OutsideNeighbours);
-    }
-    table[i] = v.0;
     Done::Yes
 }

@@ -12,8 +12,8 @@ use checks::tally::holds;
 use checks::tally::refused;
 use checks::tally::same;
 use curve::accept;
-use curve::nudge;
 use curve::start;
+use nudge::nudge;
 use table::Density;
 
 fn start_gives(tally: &mut Tally, table: &mut [u16], ramp: &[u16]) {

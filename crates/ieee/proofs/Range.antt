@@ -127,7 +127,7 @@ below-value (fin false m e) (fin false n d) g c p q h k l = (
       (le-of-eq (mul-right-comm (n * up d) (down e) q ∙ ap (λ (z : ℕ). z * down e) (k .1) ∙ mul-right-comm p (down d) (down e))))) (down-pos d),
 )
 
-has-finite : (x : Float) (s : Bool) (a c : ℕ) → HasValue x s a c → T (finite x)
+pub has-finite : (x : Float) (s : Bool) (a c : ℕ) → HasValue x s a c → T (finite x)
 has-finite nan s a c h = absurd h
 has-finite (inf t) s a c h = absurd h
 has-finite (fin t m e) s a c h = tt

@@ -1,14 +1,12 @@
--- Each promise names one answer and one later state of its buffer, refused calls too. A NaN is one value here, whatever its bits. Assumes nothing.
+-- Each promise names one answer, refused calls too. A NaN is one value here, whatever its bits. Assumes nothing.
 use mathlib.Core.Path.{_≡_, _∙_, sym, ap}
 use mathlib.Core.List.{List}
 use Prim.Native.Nat.{ℕ}
 use native.Mathlib.Omega.{arith}
 use lib.Ieee.{Float}
-use Rattle.table.specs.declared.Done.{Done}
 use Rattle.table.proofs.Refusals.{same-refusal, number-above}
-use Rattle.table.proofs.Answers.{same-done}
 use Rattle.interp.specs.declared.Interpolated.{Interpolated}
-use Rattle.interp.specs.Promises.{numberOfInterpolated, valueOfInterpolated, FloatPromise, LinearPromise, PassthroughPromise}
+use Rattle.interp.specs.Promises.{numberOfInterpolated, valueOfInterpolated, FloatPromise, LinearPromise}
 
 same-interpolated : (r s : Interpolated) → numberOfInterpolated r ≡ numberOfInterpolated s → valueOfInterpolated r ≡ valueOfInterpolated s → r ≡ s
 same-interpolated (Interpolated.Value a) (Interpolated.Value b) e v = ap Interpolated.Value v
@@ -21,6 +19,3 @@ float-one {t} {x} {r} {s} a b = same-interpolated r s (a .number ∙ sym (b .num
 
 pub linear-one : {t : List ℕ} {x : Float} {r s : Interpolated} → LinearPromise t x r → LinearPromise t x s → r ≡ s
 linear-one {t} {x} {r} {s} a b = same-interpolated r s (a .number ∙ sym (b .number)) (a .value ∙ sym (b .value))
-
-pub passthrough-one : {o p q : List Float} {r s : Done} → PassthroughPromise o r p → PassthroughPromise o s q → (r ≡ s) × (p ≡ q)
-passthrough-one {o} {p} {q} {r} {s} a b = (same-done r s (a .number ∙ sym (b .number)), a .after ∙ sym (b .after))

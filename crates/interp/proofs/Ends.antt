@@ -22,7 +22,7 @@ use Rattle.ieee.proofs.Tests.{negative-under, positive-not-under}
 use Rattle.ieee.proofs.Value.{value-unique}
 use Rattle.ieee.proofs.Operations.{mul-of, sign-kept}
 use Rattle.ieee.proofs.Zero.{null, times-zero, zero-times, plus-zero, zero-plus-zero, minus-itself, equals-itself, zeros-equal}
-use Rattle.ieee.proofs.Range.{whole-of}
+use Rattle.ieee.proofs.Range.{has-finite, whole-of}
 use Rattle.rounding.specs.Cut.{floor, ceil}
 use Rattle.rounding.proofs.Cut.{floor-whole, ceil-whole}
 use Rattle.interp.specs.Interp.{unit, place, diff, mixed, mixedAt, floatLookedUp}
@@ -110,12 +110,7 @@ at-whole t k v K e =
     let h : HasValue w false k 1 = whole-of binary32 k K in
     ap (mixedAt t) e
     ∙ ap₂ (λ (i j : ℕ). mixed (getD t i nan) (getD t j nan) (sub binary32 (ofInt binary32 (pos i)) w)) (ceil-whole w false k h) (floor-whole w false k h)
-    ∙ ap (mixed (getD t k nan) (getD t k nan)) (minus-itself binary32 w (value-finite w false k 1 h))
-  where
-    value-finite : (x : Float) (s : Bool) (a c : ℕ) → HasValue x s a c → T (finite x)
-    value-finite nan s a c h = absurd h
-    value-finite (inf t) s a c h = absurd h
-    value-finite (fin t m e) s a c h = tt
+    ∙ ap (mixed (getD t k nan) (getD t k nan)) (minus-itself binary32 w (has-finite w false k 1 h))
 
 -- v is a zero of either sign
 at-zero : (t : List Float) (s : Bool) → mixedAt t (null s) ≡ mixed (getD t 0 nan) (getD t 0 nan) nought

@@ -20,9 +20,6 @@ module _ (n : ℕ) (S : sized n ≡ true) where
   pub last-few : n - 1 ≤ 65536
   last-few = omega (arith, within-high 1 65536 n S)
 
-  pub index-few : (i : ℕ) → i < n → i ≤ 65536
-  index-few i h = omega (arith, within-high 1 65536 n S)
-
   pub last-exact : (f : Format) → T (inFloat f (pos (n - 1)))
   last-exact f = in-float f (n - 1) last-few
 

@@ -12,7 +12,7 @@ use Rattle.ieee.specs.Range.{one}
 use Rattle.ieee.proofs.Tests.{bits-one}
 use Rattle.rounding.specs.Cut.{FloorPromise, CeilPromise}
 use Rattle.rounding.specs.Nearest.{narrow, NarrowPromise}
-use Rattle.interp.specs.Interp.{place, diff, unit, mixed, mixedAt, floatLookedUp, weighed, weighedUp, linearLookedUp, passed}
+use Rattle.interp.specs.Interp.{place, diff, unit, mixed, mixedAt, floatLookedUp, weighed, weighedUp, linearLookedUp}
 
 -- ---- `interp_float`: y is the input as `unit` reads it, h and l what ceil and floor gave
 module _ (t : List Float) (x y : Float) (e : y ≡ unit x) where
@@ -58,8 +58,3 @@ module _ (t : List ℕ) (x : Float) where
   linear-gives y r n e p =
       ap₂ (mul binary32) (p .value ∙ ap narrow e) quotient
       ∙ sym (ap (λ (b : Bool). pick b (narrow x) (mul binary32 (narrow (weighedUp t x)) (div binary32 one (ofInt binary32 (pos 65535))))) (ne-eqb (length t) 0 n))
-
--- ---- `fill_passthrough`
-pub passed-gives : (n i : ℕ) (r : Float) → NarrowPromise (mul binary64 (ofInt binary64 (pos i)) (div binary64 (ofBits binary64 4607182418800017408) (ofInt binary64 (pos (n - 1))))) r → r ≡ passed n i
-unfolding passed
-passed-gives n i r p = p .value ∙ ap (λ (c : Float). narrow (mul binary64 (ofInt binary64 (pos i)) (div binary64 c (ofInt binary64 (pos (n - 1)))))) (bits-one binary64)

@@ -8,16 +8,15 @@ use borrow.Author.Tests.{leb-true}
 use lib.ListN.{length, getD}
 use lib.Dec.{T}
 use lib.Ieee.{Float, nan, binary32, fits}
-use Rattle.table.specs.Sizes.{sized, spanned, notAbove}
+use Rattle.table.specs.Sizes.{sized, notAbove}
 use Rattle.table.specs.Refusals.{granted}
-use Rattle.table.specs.declared.Refusal.the-variants.{TableLength, OutsideRange, OutsideUnit}
-use Rattle.table.specs.declared.Done.{Done}
+use Rattle.table.specs.declared.Refusal.the-variants.{TableLength, OutsideUnit}
 use Rattle.table.proofs.Choice.{never}
 use Rattle.table.proofs.Sizes.{is-within}
 use Rattle.table.proofs.Refusals.{rung-granted}
 use Rattle.interp.specs.declared.Interpolated.{Interpolated}
-use Rattle.interp.specs.Interp.{floatLookedUp, outsideUnit, linearLookedUp, passedThrough}
-use Rattle.interp.specs.Promises.{EndsExact, FloatPromise, LinearPromise, PassthroughPromise}
+use Rattle.interp.specs.Interp.{floatLookedUp, outsideUnit, linearLookedUp}
+use Rattle.interp.specs.Promises.{EndsExact, FloatPromise, LinearPromise}
 use Rattle.interp.proofs.Ends.{ends-exact}
 
 module _ (t : List Float) (x : Float) where
@@ -49,10 +48,3 @@ module _ (t : List ℕ) (x : Float) where
     -- a table that is not too long, and not empty
     pub not-empty : (length t ≡ 0 → ⊥) → sized (length t) ≡ true
     not-empty n = is-within 1 65536 (length t) (omega arith) (leb-true (length t) 65536 h)
-
-module _ (o : List Float) where
-  pub passthrough-refused : spanned (length o) ≡ false → PassthroughPromise o (Done.Refused OutsideRange) o
-  passthrough-refused f = record { number = simp f; after = simp f }
-
-  pub passthrough-granted : (p : List Float) → spanned (length o) ≡ true → p ≡ passedThrough (length o) → PassthroughPromise o Done.Yes p
-  passthrough-granted p h e = record { number = simp h; after = simp h e }

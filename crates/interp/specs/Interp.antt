@@ -1,4 +1,4 @@
--- The float lookups of document 01 and the passthrough table, in the operations of IEEE 754, one rounding for each sign. Assumes nothing.
+-- The float lookups of document 01, in the operations of IEEE 754, one rounding for each sign. Assumes nothing.
 use Prim.Native.Nat.{ℕ, _-_}
 use mathlib.Core.Bool.{Bool, _||_}
 use mathlib.Core.List.{List}
@@ -7,7 +7,6 @@ use lib.IntN.{pos}
 use lib.Dec.{eqb}
 use lib.Ieee.{Float, nan, Format, binary32, binary64, add, sub, mul, div, lt, isNan, ofInt}
 use Rattle.table.specs.Choice.{pick}
-use Rattle.table.specs.Fill.{tabulated}
 use Rattle.ieee.specs.Range.{nought, one}
 use Rattle.rounding.specs.Cut.{floor, ceil}
 use Rattle.rounding.specs.Nearest.{narrow}
@@ -54,10 +53,3 @@ unfoldable pub linearLookedUp : List ℕ → Float → Float
 linearLookedUp t x =
     pick (eqb (length t) 0) (narrow x)
     (mul binary32 (narrow (weighedUp t x)) (div binary32 one (ofInt binary32 (pos 65535))))
-
--- `passthrough_table_impl`: entry i is i·(1/max), f64 steps, as f32, with max = length - 1
-unfoldable pub passed : ℕ → ℕ → Float
-passed n i = narrow (mul binary64 (ofInt binary64 (pos i)) (div binary64 one (ofInt binary64 (pos (n - 1)))))
-
-abbrev pub passedThrough : ℕ → List Float
-passedThrough n = tabulated (passed n) n

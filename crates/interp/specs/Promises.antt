@@ -1,4 +1,4 @@
--- What each call of this crate promises: when it is refused and by which number, its value, and what the lent buffer holds after it. Assumes nothing.
+-- What each call of this crate promises: when it is refused and by which number, and its value. Assumes nothing.
 use Prim.Native.Nat.{ℕ, _-_}
 use mathlib.Core.Path.{_≡_}
 use mathlib.Core.Bool.{true, false, not}
@@ -7,14 +7,12 @@ use lib.ListN.{length, getD}
 use lib.Dec.{T}
 use lib.Ieee.{Float, nan, lt, le, eq}
 use lib.Ieee.Scale.{finite}
-use Rattle.table.specs.Sizes.{sized, spanned, notAbove}
+use Rattle.table.specs.Sizes.{sized, notAbove}
 use Rattle.table.specs.Refusals.{numberOf, Verdict, granted, rung, numberIn, ifGranted}
-use Rattle.table.specs.Answers.{numberOfDone}
-use Rattle.table.specs.declared.Done.{Done}
-use Rattle.table.specs.declared.Refusal.the-variants.{TableLength, OutsideRange, OutsideUnit}
+use Rattle.table.specs.declared.Refusal.the-variants.{TableLength, OutsideUnit}
 use Rattle.ieee.specs.Range.{nought, one}
 use Rattle.interp.specs.declared.Interpolated.{Interpolated}
-use Rattle.interp.specs.Interp.{floatLookedUp, outsideUnit, linearLookedUp, passedThrough}
+use Rattle.interp.specs.Interp.{floatLookedUp, outsideUnit, linearLookedUp}
 
 -- Document 01's number and value for each case of an answer: a refused one has 0 in the value's place.
 abbrev pub numberOfInterpolated : Interpolated → ℕ
@@ -50,11 +48,3 @@ linearVerdict t x =
 pub record LinearPromise (t : List ℕ) (x : Float) (r : Interpolated) : Type 0 where
   pub number : numberOfInterpolated r ≡ numberIn (linearVerdict t x)
   pub value : valueOfInterpolated r ≡ ifGranted (linearVerdict t x) (linearLookedUp t x) nought
-
--- `passthrough_table_impl`: refused for a length outside 2 to 65,536, 12.
-abbrev pub passthroughVerdict : List Float → Verdict
-passthroughVerdict output = rung (spanned (length output)) OutsideRange granted
-
-pub record PassthroughPromise (output : List Float) (r : Done) (output′ : List Float) : Type 0 where
-  pub number : numberOfDone r ≡ numberIn (passthroughVerdict output)
-  pub after : output′ ≡ ifGranted (passthroughVerdict output) (passedThrough (length output)) output

@@ -1,22 +1,19 @@
-// The lookups whose positions are floats, and the table that passes its input through.
+// The lookups whose positions are floats.
 use rounding::inside::ceil_f32;
 use rounding::inside::ceil_f64;
 use rounding::inside::floor_f32;
 use rounding::inside::floor_f64;
 use rounding::min_f32;
 use rounding::nearest_f64_to_f32;
-use table::Done;
 use table::Refusal;
 use table::not_above;
 use table::sized;
-use table::spanned;
 ghost use mathlib.Core.Path.{_≡_};
 ghost use mathlib.Core.Bool.{true, false};
-ghost use Prim.Native.Nat.{_<_};
 ghost use lib.ListN.{length};
-ghost use Rattle.table.specs.Sizes.{sized, spanned};
-ghost use Rattle.interp.specs.Interp.{unit, floatLookedUp, outsideUnit, weighedUp, passedThrough};
-ghost use Rattle.interp.specs.Promises.{FloatPromise, LinearPromise, PassthroughPromise};
+ghost use Rattle.table.specs.Sizes.{sized};
+ghost use Rattle.interp.specs.Interp.{unit, floatLookedUp, outsideUnit, weighedUp};
+ghost use Rattle.interp.specs.Promises.{FloatPromise, LinearPromise};
 
 // The answer of a lookup that gives a float.
 pub enum Interpolated {
@@ -101,28 +98,4 @@ pub fn lut_interp_linear(table: &[u16], x: f64) -> Interpolated
     }
     let value = nearest_f64_to_f32(interp_wide(table, x));
     Interpolated::Value(value * (1.0 / 65535.0))
-}
-
-// Entry i over the last index.
-fn fill_passthrough(output: &mut [f32])
-    requires { ⌜ spanned (length (now output)) ≡ true ⌝ }
-    ensures { λ _. ⌜ now (output .exit) ≡ passedThrough (length (now (output .entry))) ⌝ }
-{
-    let scale_value = 1.0 / ((output.len() - 1) as f64);
-    let mut i = 0;
-    while i < output.len() {
-        output[i] = nearest_f64_to_f32((i as f64) * scale_value);
-        i += 1;
-    }
-}
-
-// The table that passes its input through, as long as the buffer that is lent for it.
-pub fn passthrough_table_impl(output: &mut [f32]) -> Done
-    ensures { λ r. ⌜ PassthroughPromise (now (output .entry)) r (now (output .exit)) ⌝ }
-{
-    if !spanned(output.len()) {
-        return Done::Refused(Refusal::OutsideRange);
-    }
-    fill_passthrough(output);
-    Done::Yes
 }

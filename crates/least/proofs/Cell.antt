@@ -1,27 +1,21 @@
 -- Inside one cell of a table: entry c is below v and the next is not. The least input of v is then worked out by two quotients rounded up, how many steps
 -- past entry c bring the lookup to v, and how many positions bring it that many steps. Assumes nothing.
-use mathlib.Core.Path.{_≡_, _∙_, sym, ap}
+use mathlib.Core.Path.{_≡_, _∙_, refl, sym, ap}
 use mathlib.Core.Logic.{⊎-elim, _↔_}
 use mathlib.Core.List.{List}
-use Prim.Native.Nat.{ℕ, suc, _+_, _-_, _*_, _/_, _%_, _≤_, _<_}
-use native.Mathlib.Nat.{le-trans, le-of-suc-le-suc, add-mul, mul-add, mul-comm, suc-mul, add-sub-of-le, mul-le-mul-right, div-lt-iff-lt-mul, le-div-iff-mul-le, div-le-of-le-mul, div-add-mod', mod-lt}
+use Prim.Native.Nat.{ℕ, _+_, _-_, _*_, _/_, _%_, _≤_, _<_}
+use native.Mathlib.Nat.{le-trans, add-mul, mul-add, mul-comm, add-sub-of-le, mul-le-mul-right, div-lt-iff-lt-mul, le-div-iff-mul-le, div-le-of-le-mul, div-add-mod', mod-lt}
 use native.Mathlib.Omega.{arith}
 use lib.ListN.{length, getD}
 use lib.Dec.{lit<}
 use Rattle.table.proofs.Choice.{below?}
-use Rattle.lookup.specs.Lookup.{steps, entriesOf, lookedUp}
+use Rattle.lookup.specs.Lookup.{upper, steps, entriesOf, lookedUp}
+use Rattle.lookup.proofs.Steps.{upper-le-iff}
 use Rattle.lookup.proofs.LookupLaws.{lookup-reaches}
 use Rattle.least.specs.Least.{leastOf}
-use Rattle.least.specs.Inside.{Cell, up}
+use Rattle.least.specs.Inside.{Cell}
 use Rattle.least.proofs.LeastLaws.{least-only}
 use Rattle.least.proofs.Tables.{searchable-rises, table-obeys, table-rises}
-
--- a quotient rounded up is at most x exactly if x times the divisor is enough
-pub up-le : (a b x : ℕ) → 0 < b → (up a b ≤ x) ↔ (a ≤ x * b)
-unfolding up
-up-le a b x pos =
-    let i = div-lt-iff-lt-mul {k = b} {x = a + (b - 1)} {y = suc x} pos in
-    ((λ l. omega (arith, i .0 (omega arith), suc-mul x b)), (λ l. le-of-suc-le-suc (i .1 (omega (arith, suc-mul x b)))))
 
 -- 65535 times an entry, parted at k
 parted : (a k : ℕ) → k ≤ 65535 → a * 65535 ≡ a * k + a * (65535 - k)
@@ -36,7 +30,11 @@ weigh a b v k ab av h =
 
 -- how many of the 65535 steps from entry c to the next bring the lookup to v
 abbrev pub cellSteps : List ℕ → ℕ → ℕ → ℕ
-cellSteps t v c = up ((v - getD t c 0) * 65535) (getD t (c + 1) 0 - getD t c 0)
+cellSteps t v c = upper (getD t (c + 1) 0 - getD t c 0) ((v - getD t c 0) * 65535)
+
+-- worked out of entries that were read
+pub steps-read : (t : List ℕ) (v c : ℕ) {before after w s : ℕ} → before ≡ getD t c 0 → w ≡ v → after ≡ getD t (c + 1) 0 → s ≡ upper (after - before) ((w - before) * 65535) → s ≡ cellSteps t v c
+steps-read t v c b w a s = rw (s, b, w, a) refl
 
 -- the lookup at q is at least v exactly if q is that many steps past entry c
 abbrev Reaches : List ℕ → ℕ → ℕ → ℕ → Type 0
@@ -53,7 +51,7 @@ module _ {t : List ℕ} {top v c : ℕ} (cell : Cell t top v c) where
 
   -- at most a whole cell is stepped through
   pub steps-small : cellSteps t v c ≤ 65535
-  steps-small = up-le ((v - getD t c 0) * 65535) (getD t (c + 1) 0 - getD t c 0) 65535 (omega arith) .1 (omega arith)
+  steps-small = upper-le-iff (getD t (c + 1) 0 - getD t c 0) ((v - getD t c 0) * 65535) 65535 (omega arith) .1 (omega arith)
 
   -- before the cell the lookup is at most entry c,
   low : (q : ℕ) → steps (length t) q < c * 65535 → v ≤ lookedUp t q → ⊥
@@ -82,7 +80,7 @@ module _ {t : List ℕ} {top v c : ℕ} (cell : Cell t top v c) where
       let h : k ≤ 65535 = omega arith in
       let r = lookup-reaches (entriesOf t) (length t) q v c k (sym (add-sub-of-le g)) h in
       let w = weigh (getD t c 0) (getD t (c + 1) 0) v k (omega arith) (omega arith) h in
-      let u = up-le ((v - getD t c 0) * 65535) (getD t (c + 1) 0 - getD t c 0) k (omega arith) in
+      let u = upper-le-iff (getD t (c + 1) 0 - getD t c 0) ((v - getD t c 0) * 65535) k (omega arith) in
       ((λ l. omega (arith, u .1 (w .0 (r .0 l)))), (λ l. r .1 (w .1 (u .0 (omega arith)))))
 
   -- and past it the lookup is at least the next entry
@@ -100,17 +98,17 @@ module _ {t : List ℕ} {top v c : ℕ} (cell : Cell t top v c) where
       ⊎-elim (before q) (λ g. ⊎-elim (within q g) (past q h) (below? (steps (length t) q) ((c + 1) * 65535)))
       (below? (steps (length t) q) (c * 65535))
 
-  exact : (q : ℕ) → q ≤ 65535 → (v ≤ lookedUp t q) ↔ (up (c * 65535 + cellSteps t v c) top ≤ q)
+  exact : (q : ℕ) → q ≤ 65535 → (v ≤ lookedUp t q) ↔ (upper top (c * 65535 + cellSteps t v c) ≤ q)
   exact q h =
       let r = reaches q h in
-      let u = up-le (c * 65535 + cellSteps t v c) top q (omega arith) in
+      let u = upper-le-iff top (c * 65535 + cellSteps t v c) q (omega arith) in
       ((λ l. u .1 (omega (arith, r .0 l, steps-are q))), (λ l. r .1 (omega (arith, u .0 l, steps-are q))))
 
-  pub cell-inside : up (c * 65535 + cellSteps t v c) top ≤ 65535
-  cell-inside = up-le (c * 65535 + cellSteps t v c) top 65535 (omega arith) .1 (omega (arith, steps-small))
+  pub cell-inside : upper top (c * 65535 + cellSteps t v c) ≤ 65535
+  cell-inside = upper-le-iff top (c * 65535 + cellSteps t v c) 65535 (omega arith) .1 (omega (arith, steps-small))
 
   -- so many positions make that many steps
-  pub cell-least : leastOf (lookedUp t) v ≡ up (c * 65535 + cellSteps t v c) top
+  pub cell-least : leastOf (lookedUp t) v ≡ upper top (c * 65535 + cellSteps t v c)
   cell-least =
-      least-only (lookedUp t) v (table-rises (cell .table .passed)) (up (c * 65535 + cellSteps t v c) top)
+      least-only (lookedUp t) v (table-rises (cell .table .passed)) (upper top (c * 65535 + cellSteps t v c))
       cell-inside exact

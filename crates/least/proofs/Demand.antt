@@ -10,7 +10,7 @@ use Rattle.table.specs.declared.Sought.{Sought}
 use Rattle.table.specs.declared.Refusal.the-variants.{AboveLast}
 use Rattle.table.proofs.Choice.{below?}
 use Rattle.lookup.specs.Lookup.{lookedUp}
-use Rattle.curve.proofs.Sitting.{held-size, held-test, held-in-order, sitting-throughout}
+use Rattle.nudge.proofs.Sitting.{held-size, held-test, held-in-order, sitting-throughout}
 use Rattle.least.specs.Least.{leastOf}
 use Rattle.least.specs.Inside.{Passed}
 use Rattle.least.specs.Promises.{lastEntry, LeastPromise}

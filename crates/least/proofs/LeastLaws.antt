@@ -25,15 +25,6 @@ module _ (test : ℕ → Bool) where
       (first-is m (suc s) p l (omega arith) (λ q a b. before q (le-of-suc-le a) b) (λ h. here (omega arith))))
       (eq-or-lt-of-le sp)
 
-  first-le : (m s : ℕ) → first test m s ≤ s + m
-  unfolding first
-  first-le zero s = omega arith
-  first-le (suc m) s = go (test s) (first-le m (suc s))
-    where
-      go : (b : Bool) → first test m (suc s) ≤ suc s + m → pick b s (first test m (suc s)) ≤ s + suc m
-      go true ih = omega arith
-      go false ih = omega arith
-
   first-before : (m s q : ℕ) → s ≤ q → q < first test m s → test q ≡ false
   unfolding first
   first-before zero s q sq h = absurd (lt-irrefl q (lt-of-lt-of-le h sq))
@@ -58,10 +49,6 @@ module _ (f : ℕ → ℕ) (v : ℕ) where
   unfolding leastOf
   least-is p h before here =
       first-is (λ (q : ℕ). leb v (f q)) 65536 0 p zero-le h (λ q _ l. lt-leb v (f q) (before q l)) (λ l. le-leb v (f p) (here (omega arith)))
-
-  least-le : leastOf f v ≤ 65536
-  unfolding leastOf
-  least-le = first-le (λ (q : ℕ). leb v (f q)) 65536 0
 
   least-before : (q : ℕ) → q < leastOf f v → f q < v
   unfolding leastOf

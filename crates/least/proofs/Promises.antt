@@ -1,34 +1,18 @@
--- Each promise is met (`least-some`, `least-row-some`), and names one answer and one later state of its buffer, refused calls too; what it tells by the table and
--- the value; and that a row holds, entry by entry, what the single call answers. Whatever is lent or asked, an empty table, one of 65,537 entries, a falling one, any value: there is one
--- numbered answer (`least-answer`, `least-row-answer`), and a refused row leaves its buffer as it was (`least-row-refused`).
--- Assumes nothing.
-use mathlib.Core.Path.{_≡_, _∙_, refl, sym, ap}
-use mathlib.Core.Logic.{⊎-elim, _↔_}
+-- The promise is met (`least-some`) and names one answer, refused calls too: whatever is lent or asked, an empty table, one of 65,537 entries, a falling one, any value,
+-- there is one numbered answer (`least-answer`). What it tells by the table and the value. Assumes nothing.
+use mathlib.Core.Path.{_≡_, _∙_, sym}
 use mathlib.Core.List.{List}
 use Prim.Native.Nat.{ℕ, _≤_, _<_}
-use native.Mathlib.Omega.{arith}
 use borrow.Author.Tests.{le-leb, lt-leb}
-use lib.ListN.{length, getD}
-use lib.Dec.{eqb}
-use Rattle.table.specs.Sizes.{sized}
-use Rattle.table.specs.Order.{nondecreasing}
-use Rattle.table.specs.Refusals.{Verdict, granted, refused, ifGranted}
 use Rattle.table.specs.declared.Density.{Density}
-use Rattle.table.specs.declared.Done.{Done}
 use Rattle.table.specs.declared.Sought.{Sought}
-use Rattle.table.specs.declared.Refusal.{Refusal}
-use Rattle.table.specs.declared.Refusal.the-variants.{TableLength, NotNondecreasing, AboveLast, OutputLength}
-use Rattle.table.proofs.Choice.{below?}
-use Rattle.table.proofs.Refusals.{rung-granted}
-use Rattle.table.proofs.Answers.{same-done, same-sought, doneBy, done-number, done-is, done-granted, done-refused, soughtBy, sought-number, sought-value, sought-is}
-use Rattle.table.proofs.Fill.{getD-tabulated}
+use Rattle.table.specs.declared.Refusal.the-variants.{AboveLast}
+use Rattle.table.proofs.Answers.{same-sought, soughtBy, sought-number, sought-value, sought-is}
 use Rattle.lookup.specs.Lookup.{lookedUp}
 use Rattle.least.specs.Least.{leastOf}
 use Rattle.least.specs.Inside.{Passed}
-use Rattle.least.specs.Promises.{lastEntry, leastVerdict, LeastPromise, leastRowAt, leastRowOf, leastRowVerdict, LeastRowPromise}
-use Rattle.least.proofs.Tables.{table-inside}
+use Rattle.least.specs.Promises.{lastEntry, leastVerdict, LeastPromise}
 
--- The single call.
 pub least-some : (t : List ℕ) (v : Density) → LeastPromise t v (soughtBy (leastVerdict t (v .0)) (leastOf (lookedUp t) (v .0)))
 least-some t v = record { number = sought-number (leastVerdict t (v .0)) _; value = sought-value (leastVerdict t (v .0)) _ }
 
@@ -45,65 +29,3 @@ module _ {t : List ℕ} {v : Density} where
 
   pub least-above : {r : Sought} → Passed t → lastEntry t < v .0 → LeastPromise t v r → r ≡ Sought.Refused AboveLast
   least-above s h a = least-answer a ∙ simp (s .size, s .order, lt-leb _ _ h)
-
--- The row.
-pub least-row-some : (t values out : List ℕ) → LeastRowPromise t values out (doneBy (leastRowVerdict t values out)) (ifGranted (leastRowVerdict t values out) (leastRowOf t values) out)
-least-row-some t values out = record { number = done-number (leastRowVerdict t values out); after = refl }
-
-module _ {t values out : List ℕ} where
-  pub least-row-one : {r q : Done} {out′ out″ : List ℕ} → LeastRowPromise t values out r out′ → LeastRowPromise t values out q out″ → (r ≡ q) × (out′ ≡ out″)
-  least-row-one {r} {q} a b = (same-done r q (a .number ∙ sym (b .number)), a .after ∙ sym (b .after))
-
-  pub least-row-answer : {r : Done} {out′ : List ℕ} → LeastRowPromise t values out r out′ → r ≡ doneBy (leastRowVerdict t values out)
-  least-row-answer a = done-is (leastRowVerdict t values out) (a .number)
-
-  -- a granted one has passed the tests
-  pub least-row-passed : {out′ : List ℕ} → LeastRowPromise t values out Done.Yes out′ → Passed t
-  least-row-passed a =
-      let w = done-granted (leastRowVerdict t values out) (a .number) in
-      let one = rung-granted (sized (length t)) TableLength _ w in
-      let six = rung-granted (eqb (length out) (length values)) OutputLength _ (one .1) in
-      record { size = one .0; order = rung-granted (nondecreasing t) NotNondecreasing granted (six .1) .0 }
-
-  pub least-row-granted : {out′ : List ℕ} → LeastRowPromise t values out Done.Yes out′ → out′ ≡ leastRowOf t values
-  least-row-granted a = a .after ∙ simp (done-granted (leastRowVerdict t values out) (a .number))
-
-  pub least-row-refused : {why : Refusal} {out′ : List ℕ} → LeastRowPromise t values out (Done.Refused why) out′ → out′ ≡ out
-  least-row-refused {why} a = a .after ∙ simp (done-refused (leastRowVerdict t values out) why (a .number))
-
--- how a row writes the single call's answer
-abbrev pub inRow : Sought → ℕ
-inRow (Sought.At p) = p .0
-inRow (Sought.Refused why) = 65536
-
-in-row : (w : Verdict) (p : ℕ) → ifGranted w p 65536 ≡ inRow (soughtBy w p)
-in-row granted p = refl
-in-row (refused why) p = refl
-
--- a granted row holds at each place the single call's answer to the value there
-pub row-is-single : {t values out out′ : List ℕ} → LeastRowPromise t values out Done.Yes out′ → (i : ℕ) → i < length values → (r : Sought) → LeastPromise t (record { 0 = getD values i 0 }) r → getD out′ i 0 ≡ inRow r
-row-is-single {t} {values} a i h r b =
-    ap (λ (l : List ℕ). getD l i 0) (least-row-granted a)
-    ∙ getD-tabulated (leastRowAt t values) (length values) i 0 h
-    ∙ in-row (leastVerdict t (getD values i 0)) (leastOf (lookedUp t) (getD values i 0))
-    ∙ ap inRow (sym (least-answer b))
-
--- so 65536 stands in it exactly where the single call is refused with 5
-pub row-none : {t values out out′ : List ℕ} → LeastRowPromise t values out Done.Yes out′ → (i : ℕ) → i < length values → (r : Sought) → LeastPromise t (record { 0 = getD values i 0 }) r → (getD out′ i 0 ≡ 65536) ↔ (r ≡ Sought.Refused AboveLast)
-row-none {t} {values} {out} {out′} a i h r b = ⊎-elim above inside (below? (lastEntry t) (getD values i 0))
-  where
-    entry : getD out′ i 0 ≡ inRow r
-    entry = row-is-single a i h r b
-
-    above : lastEntry t < getD values i 0 → (getD out′ i 0 ≡ 65536) ↔ (r ≡ Sought.Refused AboveLast)
-    above l =
-        let e = least-above (least-row-passed a) l b in
-        ((λ _. e), (λ _. entry ∙ ap inRow e))
-
-    inside : getD values i 0 ≤ lastEntry t → (getD out′ i 0 ≡ 65536) ↔ (r ≡ Sought.Refused AboveLast)
-    inside l =
-        let e = least-found (least-row-passed a) l b in
-        let p : getD out′ i 0 ≡ leastOf (lookedUp t) (getD values i 0) = entry ∙ ap inRow e in (
-          (λ n. absurd (omega (arith, p, table-inside (least-row-passed a) (getD values i 0) l))),
-          (λ f. let z : _≡_ {A = ℕ} 0 1 = cc in absurd (omega arith)),
-        )

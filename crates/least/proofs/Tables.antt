@@ -1,7 +1,7 @@
 -- What the lookup's laws tell the search of a table that has passed the tests: its lookup never falls, and ends at the last entry. Assumes nothing.
 use mathlib.Core.Path.{_≡_, ap}
 use mathlib.Core.List.{List}
-use Prim.Native.Nat.{ℕ, _-_, _≤_, _<_, zero-le}
+use Prim.Native.Nat.{ℕ, _-_, _≤_, zero-le}
 use native.Mathlib.Omega.{arith}
 use lib.ListN.{length, getD}
 use Rattle.table.proofs.Sizes.{within-high}
@@ -12,7 +12,7 @@ use Rattle.lookup.proofs.LookupLaws.{lookup-obeys}
 use Rattle.least.specs.Least.{leastOf, NeverFalls}
 use Rattle.least.specs.Inside.{Passed, Searchable}
 use Rattle.least.specs.Promises.{lastEntry}
-use Rattle.least.proofs.LeastLaws.{least-at, least-inside, least-none}
+use Rattle.least.proofs.LeastLaws.{least-at, least-inside}
 
 -- by its last index: the last entry, how large the index is, and the order of the entries
 module _ {t : List ℕ} {top : ℕ} (s : Searchable t top) where
@@ -40,12 +40,9 @@ module _ {t : List ℕ} (s : Passed t) where
   pub table-ends : lookedUp t 65535 ≡ lastEntry t
   table-ends = table-obeys .last
 
-  -- so a value has a least input exactly if it is not above the last entry
+  -- so a value that is not above the last entry has a least input
   pub table-inside : (v : ℕ) → v ≤ lastEntry t → leastOf (lookedUp t) v ≤ 65535
   table-inside v h = least-inside (lookedUp t) v table-rises (omega (arith, table-ends))
-
-  pub table-none : (v : ℕ) → lastEntry t < v → leastOf (lookedUp t) v ≡ 65536
-  table-none v h = least-none (lookedUp t) v table-rises (omega (arith, table-ends))
 
   -- and position 0 is that of a value not above the first
   pub table-first : (v : ℕ) → v ≤ getD t 0 0 → leastOf (lookedUp t) v ≡ 0

@@ -1,4 +1,4 @@
--- Worked examples: document 01's least inputs, a value equal to the last entry, each refusal, a row, and demand 3 of one sitting.
+-- Worked examples: document 01's least inputs, a value equal to the last entry, each refusal, and demand 3 of one sitting.
 -- The lookups in them come from the lookup's law on two weighed entries. Assumes nothing.
 use mathlib.Core.Path.{_≡_, refl, sym, ap}
 use mathlib.Core.Logic.{⊎-elim}
@@ -9,20 +9,19 @@ use lib.ListN.{length, getD}
 use lib.Dec.{lit<, lit≤}
 use Rattle.table.specs.Sizes.{within}
 use Rattle.table.specs.Order.{SixteenBits}
-use Rattle.table.specs.Fill.{tabulated}
 use Rattle.table.specs.declared.Density.{Density}
 use Rattle.table.specs.declared.Done.{Done}
 use Rattle.table.specs.declared.Sought.{Sought}
-use Rattle.table.specs.declared.Refusal.the-variants.{TableLength, NotNondecreasing, AboveLast, OutputLength}
+use Rattle.table.specs.declared.Refusal.the-variants.{TableLength, NotNondecreasing, AboveLast}
 use Rattle.table.proofs.Choice.{below?}
 use Rattle.lookup.specs.Lookup.{steps, entriesOf, lookedUp}
 use Rattle.lookup.proofs.LookupLaws.{lookup-reaches}
 use Rattle.curve.specs.Promises.{sittingOn}
-use Rattle.curve.specs.Calls.{accept, Throughout}
-use Rattle.curve.proofs.Sitting.{Asked, turnsOf, accept-begins, every-list-goes}
+use Rattle.nudge.specs.Calls.{accept, Throughout}
+use Rattle.nudge.proofs.Sitting.{Asked, turnsOf, accept-begins, every-list-goes}
 use Rattle.least.specs.Least.{leastOf}
 use Rattle.least.specs.Inside.{Passed}
-use Rattle.least.specs.Promises.{LeastPromise, LeastRowPromise}
+use Rattle.least.specs.Promises.{LeastPromise}
 use Rattle.least.specs.Demand.{CurveObeys}
 use Rattle.least.proofs.LeastLaws.{least-at}
 use Rattle.least.proofs.Demand.{demand-3}
@@ -53,7 +52,7 @@ stands {t} s v q h l r =
 bent : List ℕ
 bent = 0 ∷ 100 ∷ 65535 ∷ []
 
-short : List ℕ
+unfoldable pub short : List ℕ
 short = 10 ∷ 20 ∷ []
 
 bent-ok : Passed bent
@@ -80,7 +79,7 @@ bent-65534 =
     (reached bent 65535 65534 1 65535 refl (lit≤ tt) (lit≤ tt))
 
 -- the last entry itself is reached, at the last position
-short-20 : leastOf (lookedUp short) 20 ≡ 65535
+pub short-20 : leastOf (lookedUp short) 20 ≡ 65535
 unfolding short
 short-20 =
     stands short-ok 20 65534 (lit≤ tt) (missed short 65534 20 0 65534 refl (lit≤ tt) (lit< tt))
@@ -118,19 +117,6 @@ least-of-65537 t e v = record { number = simp e; value = simp e }
 least-falling : LeastPromise (20 ∷ 10 ∷ []) (density 11) (Sought.Refused NotNondecreasing)
 unfolding within density
 least-falling = record { number = refl; value = refl }
-
-row : LeastRowPromise short (20 ∷ 21 ∷ []) (7 ∷ 7 ∷ []) Done.Yes (65535 ∷ 65536 ∷ [])
-unfolding short within tabulated
-row = record { number = refl; after = ap (λ (p : ℕ). p ∷ 65536 ∷ []) (sym short-20) }
-
--- of a falling table an output of the wrong length comes first
-row-short-output : LeastRowPromise (20 ∷ 10 ∷ []) (5 ∷ 6 ∷ []) (7 ∷ []) (Done.Refused OutputLength) (7 ∷ [])
-unfolding within
-row-short-output = record { number = refl; after = refl }
-
-row-falling : LeastRowPromise (20 ∷ 10 ∷ []) (5 ∷ []) (7 ∷ []) (Done.Refused NotNondecreasing) (7 ∷ [])
-unfolding within
-row-falling = record { number = refl; after = refl }
 
 -- Demand 3 of one sitting: the table accepted, and its middle entry nudged to 200.
 bent-bits : SixteenBits bent

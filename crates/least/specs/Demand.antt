@@ -10,8 +10,8 @@ use Rattle.table.specs.declared.Refusal.the-variants.{AboveLast}
 use Rattle.lookup.specs.Lookup.{lookedUp}
 use Rattle.lookup.specs.Demand.{LookupObeys}
 use Rattle.curve.specs.Promises.{Sitting}
-use Rattle.curve.specs.Calls.{Turn, Throughout, WholeSitting}
-use Rattle.curve.specs.Demand.{InOrder}
+use Rattle.nudge.specs.Calls.{Turn, Throughout, WholeSitting}
+use Rattle.nudge.specs.Demand.{InOrder}
 use Rattle.least.specs.Promises.{lastEntry, LeastPromise}
 
 -- the answer r is a position from which on, and only from which on, the lookup is at least v

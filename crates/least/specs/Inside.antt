@@ -1,5 +1,5 @@
--- What the inner functions of this crate ask of whoever calls them. Assumes nothing.
-use Prim.Native.Nat.{ℕ, _+_, _-_, _/_, _≤_, _<_}
+-- What the inner functions of this crate and of `least_row` ask of whoever calls them. Assumes nothing.
+use Prim.Native.Nat.{ℕ, _+_, _≤_, _<_}
 use mathlib.Core.Path.{_≡_}
 use mathlib.Core.Bool.{true}
 use mathlib.Core.List.{List}
@@ -29,7 +29,3 @@ pub record Cell (t : List ℕ) (top v c : ℕ) : Type 0 where
   pub inside : c < top
   pub below : getD t c 0 < v
   pub reached : v ≤ getD t (c + 1) 0
-
--- a quotient rounded up
-unfoldable pub up : ℕ → ℕ → ℕ
-up a b = (a + (b - 1)) / b

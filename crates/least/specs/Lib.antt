@@ -1,4 +1,4 @@
--- `Least`: the definition. `Promises`: what the calls promise of it. `Demand`: demand 3, whole. `Inside`: what inner functions ask.
+-- `Least`: the definition. `Promises`: what the call promises of it. `Demand`: demand 3, whole. `Inside`: what inner functions ask.
 pub mod Least
 pub mod Promises
 pub mod Inside

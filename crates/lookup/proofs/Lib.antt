@@ -1,4 +1,4 @@
--- `Sum`: the laws that both lookups share, over the divisor. `LookupLaws`: what follows for the 16-bit one. `Promises`: each promise names one answer.
+-- `Sum`: the laws that both lookups share, over the divisor. `LookupLaws`: what follows for the 16-bit one. `Promises`: the promise names one answer.
 -- `Weigh` and `Steps`: the arithmetic under them.
 pub mod Weigh
 pub mod Steps

@@ -1,8 +1,7 @@
 -- The laws of the 16-bit lookup. On any source of entries: it lies between its two entries, is exact on an entry, depends on those two alone, and reaches
 -- a value exactly if they do, weighed.
--- On a nondecreasing one: it never falls as the position rises. A baked table answers as the table does.
--- Assumes nothing.
-use mathlib.Core.Path.{_≡_, _∙_, ap, sym, subst}
+-- On a nondecreasing one: it never falls as the position rises. Assumes nothing.
+use mathlib.Core.Path.{_≡_, _∙_, ap, refl, sym, subst}
 use mathlib.Core.Logic.{_↔_}
 use mathlib.Core.Bool.{true}
 use mathlib.Core.List.{List}
@@ -14,9 +13,8 @@ use lib.Dec.{lit<}
 use Rattle.table.specs.Sizes.{sized}
 use Rattle.table.specs.Order.{Nondecreasing, SixteenBits}
 use Rattle.table.proofs.Sizes.{within-low}
-use Rattle.table.proofs.Fill.{length-tabulated, getD-tabulated}
 use Rattle.lookup.specs.Demand.{LookupObeys}
-use Rattle.lookup.specs.Lookup.{lower, upper, weighted, steps, lookup16, entriesOf, lookedUp, bakedOf}
+use Rattle.lookup.specs.Lookup.{lower, upper, weighted, steps, lookup16, entriesOf, lookedUp}
 use Rattle.lookup.proofs.Steps.{steps-le}
 use Rattle.lookup.proofs.Sum.{Rises, div-mono, sum-same, sum-on-entry, sum-steps, sum-at-most, sum-at-least, sum-first, sum-last, lower-le-sum, sum-le-upper, sum-rises}
 
@@ -61,6 +59,13 @@ lookup-reaches T n p m c k e h =
     let s : weighted 65535 T (steps n p) ≡ T (c + 1) * k + T c * (65535 - k) = ap (weighted 65535 T) e ∙ sum-steps 65535 T cap>0 c k h in
     ((λ r. subst (λ (x : ℕ). m * 65535 ≤ x) s (le-div-iff-mul-le cap>0 .0 r)), (λ r. le-div-iff-mul-le cap>0 .1 (subst (λ (x : ℕ). m * 65535 ≤ x) (sym s) r)))
 
+-- from the sum at p times the last index
+pub looked-up-read : (t : List ℕ) (p top : ℕ) {x s : ℕ} → length t ≡ top + 1 → x ≡ p → s ≡ weighted 65535 (entriesOf t) (x * top) → s / 65535 ≡ lookedUp t p
+unfolding lookup16
+looked-up-read t p top e x s =
+    let last : top ≡ length t - 1 = omega arith in
+    rw (s, x, last) refl
+
 -- of 65,536 entries the lookup at p is entry p
 pub lookup-full : (T : ℕ → ℕ) (p : ℕ) → lookup16 T 65536 p ≡ T p
 unfolding lookup16
@@ -92,12 +97,6 @@ module _ (T : ℕ → ℕ) (n : ℕ) (some : 0 < n) (R : Rises n T) where
 -- in a table of 16-bit entries the answer is 16 bits wide
 pub looked-up-fits : (t : List ℕ) → SixteenBits t → (p : ℕ) → lookedUp t p ≤ 65535
 looked-up-fits t b p = lookup-at-most (entriesOf t) (length t) p 65535 (le-of-suc-le-suc (b _)) (le-of-suc-le-suc (b _))
-
--- looking up in the baked table is looking up in the table
-pub baked-same : (t : List ℕ) (p : ℕ) → p ≤ 65535 → lookedUp (bakedOf t) p ≡ lookedUp t p
-baked-same t p h =
-    looked-up-full (bakedOf t) (length-tabulated (lookedUp t) 65536) p
-    ∙ getD-tabulated (lookedUp t) 65536 p 0 (omega arith)
 
 -- demand 3's part on the lookup
 pub lookup-obeys : (t : List ℕ) → sized (length t) ≡ true → Nondecreasing t → LookupObeys t

@@ -1,7 +1,7 @@
 -- The weighted sum S, over any divisor cap and any source of entries: what both lookups rest on.
 -- On a nondecreasing source it never falls, lies between cap times its two entries, and is cap times the entry where a step lands on one.
 -- Assumes nothing.
-use mathlib.Core.Path.{_≡_, _∙_, ap, sym}
+use mathlib.Core.Path.{_≡_, _∙_, ap, refl, sym}
 use mathlib.Core.Logic.{⊎-elim}
 use Prim.Native.Nat.{ℕ, _+_, _-_, _*_, _/_, _%_, _≤_, _<_}
 use native.Mathlib.Nat.{le-refl, le-trans, le-of-eq, le-of-lt, mul-zero, zero-mul, zero-add, sub-zero, div-add-mod', div-mul-le-self, mod-lt, eq-zero-or-pos, eq-or-lt-of-le, le-div-iff-mul-le, zero-div, zero-mod, mul-mod-right, mul-div-right, mul-le-mul-right, mul-add-div-right, mul-add-mod-self-right, div-eq-of-lt, mod-eq-of-lt, mod-self, div-self, sub-self, add-zero}
@@ -24,6 +24,11 @@ unfolding weighted
 sum-same cap T U v l u =
     ap (λ (a : ℕ). T (upper cap v) * rest cap v + a * (cap - rest cap v)) l
     ∙ ap (λ (b : ℕ). b * rest cap v + U (lower cap v) * (cap - rest cap v)) u
+
+-- the sum of two entries that were read
+pub sum-read : (cap : ℕ) (T : ℕ → ℕ) (v : ℕ) {u hi lo s : ℕ} → u ≡ upper cap v → hi ≡ T u → lo ≡ T (lower cap v) → s ≡ hi * rest cap v + lo * (cap - rest cap v) → s ≡ weighted cap T v
+unfolding weighted
+sum-read cap T v e h l s = rw (s, h, l, e) refl
 
 module _ (cap : ℕ) (T : ℕ → ℕ) (pos : 0 < cap) where
   -- where nothing is left over: that entry alone

@@ -6,7 +6,6 @@ use mathlib.Core.List.{List}
 use lib.ListN.{length, getD}
 use lib.Dec.{ltb}
 use Rattle.table.specs.Choice.{pick}
-use Rattle.table.specs.Fill.{tabulated}
 
 -- lower = floor(v/cap)
 abbrev pub lower : ℕ → ℕ → ℕ
@@ -39,14 +38,3 @@ entriesOf t i = getD t i 0
 -- the 16-bit lookup in a table
 abbrev pub lookedUp : List ℕ → ℕ → ℕ
 lookedUp t p = lookup16 (entriesOf t) (length t) p
-
--- the 16-bit lookup at each of a row of positions
-abbrev pub rowAt : List ℕ → List ℕ → ℕ → ℕ
-rowAt t positions i = lookedUp t (getD positions i 0)
-
-abbrev pub rowOf : List ℕ → List ℕ → List ℕ
-rowOf t positions = tabulated (rowAt t positions) (length positions)
-
--- the 16-bit lookup at every position: the table's baked form
-abbrev pub bakedOf : List ℕ → List ℕ
-bakedOf t = tabulated (lookedUp t) 65536

@@ -10,8 +10,8 @@ ghost use Rattle.lookup.specs.Inside.{StepsFit};
 ghost use Rattle.lookup.specs.Lookup.{upper, weighted, entriesOf, lookedUp};
 
 // The quotient rounded up, by the Rust's own steps.
-fn div_ceil(value: usize, cap: usize) -> usize
-    requires { ⌜ (0 < cap) × (value ≤ 65535 * 65535) ⌝ }
+pub fn div_ceil(value: usize, cap: usize) -> usize
+    requires { ⌜ (0 < cap) × (value ≤ 65535 * 65536) ⌝ }
     ensures { λ r. ⌜ r ≡ upper cap value ⌝ }
 {
     if 0 < value % cap {
@@ -21,7 +21,7 @@ fn div_ceil(value: usize, cap: usize) -> usize
 }
 
 // Two entries weighed by how near each is, `interp` of cap steps after the lower one.
-pub fn mix(hi: usize, lo: usize, interp: usize, cap: usize) -> usize
+fn mix(hi: usize, lo: usize, interp: usize, cap: usize) -> usize
     requires { ⌜ (hi ≤ 65535) × (lo ≤ 65535) × (interp < cap) × (cap ≤ 65535) ⌝ }
     ensures { λ r. ⌜ (r ≡ hi * interp + lo * (cap - interp)) × (r ≤ 65535 * cap) ⌝ }
 {

@@ -2,10 +2,12 @@
 use rounding::abs_f32;
 use table::Refusal;
 ghost use mathlib.Core.Path.{_≡_};
+ghost use mathlib.Core.Bool.{true};
 ghost use Prim.Native.Nat.{min};
+ghost use lib.ListN.{length};
 ghost use Rattle.parametric.specs.Compare.{far};
 ghost use Rattle.parametric.specs.Promises.{NewPromise, ComparePromise};
-ghost use Rattle.parametric.specs.Unify.{ofOne, ofThree, ofFour, ofFive};
+ghost use Rattle.parametric.specs.Unify.{ofOne, ofThree, ofFour, ofFive, counted, unified};
 
 // (aX + b)^g + e from X = d on, cX + f below.
 pub struct ParametricCurve {
@@ -80,34 +82,68 @@ fn of_five(g: f32, a: f32, b: f32, c: f32, d: f32) -> ParametricCurve
     }
 }
 
+// Whether a curve may have so many parameters.
+fn counted(count: usize) -> bool
+    ensures { λ r. ⌜ r ≡ counted count ⌝ }
+{
+    if count == 1 {
+        return true;
+    }
+    if count == 3 {
+        return true;
+    }
+    if count == 4 {
+        return true;
+    }
+    if count == 5 {
+        return true;
+    }
+    count == 7
+}
+
+// The curve of so many parameters, each read once.
+fn of_params(params: &[f32]) -> ParametricCurve
+    requires { ⌜ counted (length (now params)) ≡ true ⌝ }
+    ensures { λ r. ⌜ r ≡ unified (now (params .entry)) ⌝ }
+{
+    let n = params.len();
+    let g = params[0];
+    if n == 1 {
+        return of_one(g);
+    }
+    let a = params[1];
+    let b = params[2];
+    if n == 3 {
+        return of_three(g, a, b);
+    }
+    let c = params[3];
+    if n == 4 {
+        return of_four(g, a, b, c);
+    }
+    let d = params[4];
+    if n == 5 {
+        return of_five(g, a, b, c, d);
+    }
+    ParametricCurve {
+        g,
+        a,
+        b,
+        c,
+        d,
+        e: params[5],
+        f: params[6],
+    }
+}
+
 impl ParametricCurve {
+    // One shape of curve for every count: whoever works with it need not know which function type the parameters came from.
     pub fn new(params: &[f32]) -> Unified
         ensures { λ r. ⌜ NewPromise (now (params .entry)) r ⌝ }
     {
-        if params.len() == 1 {
-            return Unified::Curve(of_one(params[0]));
+        if !counted(params.len()) {
+            return Unified::Refused(Refusal::ParameterCount);
         }
-        if params.len() == 3 {
-            return Unified::Curve(of_three(params[0], params[1], params[2]));
-        }
-        if params.len() == 4 {
-            return Unified::Curve(of_four(params[0], params[1], params[2], params[3]));
-        }
-        if params.len() == 5 {
-            return Unified::Curve(of_five(params[0], params[1], params[2], params[3], params[4]));
-        }
-        if params.len() == 7 {
-            return Unified::Curve(ParametricCurve {
-                g: params[0],
-                a: params[1],
-                b: params[2],
-                c: params[3],
-                d: params[4],
-                e: params[5],
-                f: params[6],
-            });
-        }
-        Unified::Refused(Refusal::ParameterCount)
+        Unified::Curve(of_params(params))
     }
 }
 

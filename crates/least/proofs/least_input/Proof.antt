@@ -1,7 +1,6 @@
--- `least_input` meets its promise, rung by rung, and past them the search. Assumes nothing.
+-- `least_input` meets its promise, rung by rung as far as the table decides. Assumes nothing.
 use native.Mathlib.Omega.{arith}
 use borrow.Author.Needs.{needs}
-use borrow.Author.Tests.{le-leb, lt-leb}
 use denote.Ref.{now}
 use Rattle.table.proofs.Choice.{fails, holds}
 use Rattle.table.proofs.Sizes.{within-low}
@@ -32,47 +31,17 @@ returns-2 c =
     let f = fails (c .before .in-order .ensures) (c .if2 .taken) in
     record { number = simp (h, f); value = simp (h, f) }
 
-sub-top : tie.Need-sub-top
-sub-top c = within-low 1 65536 _ (passed c .size)
+sub-least-in : tie.Need-sub-least-in
+sub-least-in c = within-low 1 65536 _ (passed c .size)
 
-mul-if3 : tie.Need-mul-if3
-mul-if3 c = search needs
-
-shared-slice-read-if3 : tie.Need-shared-slice-read-if3
-shared-slice-read-if3 c = omega (arith, within-low 1 65536 _ (passed (c .before) .size))
+least-in-requires : tie.Need-least-in-requires
+least-in-requires c κs =
+    let s = passed c in
+    record { passed = s; last = omega (arith, within-low 1 65536 _ (s .size)) }
 
 returns-3 : tie.Need-returns-3
-returns-3 c =
-    let s = passed (c .before .before .before) in
-    let f = lt-leb _ _ (c .if3 .taken) in
-    record { number = simp (s .size, s .order, f); value = simp (s .size, s .order, f) }
-
-least-requires : tie.Need-least-requires
-least-requires c κs =
-    let s = passed (c .before .before .before) in
-    (record { passed = s; last = omega (arith, within-low 1 65536 _ (s .size)) }, c .if3 .left)
-
-cast-t10 : tie.Need-cast-t10
-cast-t10 c = search needs
-
-returns-4 : tie.Need-returns-4
-returns-4 c =
-    let s = passed (c .before .before .before .before) in
-    let h = le-leb _ _ (c .before .if3 .left) in
-    record { number = simp (s .size, s .order, h); value = simp (s .size, s .order, h, c .least .ensures .0) }
+returns-3 c = c .least-in .ensures
 
 pub least-input-spec : {M : Type 1} → statement M
 least-input-spec =
-    tie.close
-    (tie.spec
-    sized-requires
-    returns
-    in-order-requires
-    returns-2
-    sub-top
-    mul-if3
-    shared-slice-read-if3
-    returns-3
-    least-requires
-    cast-t10
-    returns-4)
+    tie.close (tie.spec sized-requires returns in-order-requires returns-2 sub-least-in least-in-requires returns-3)

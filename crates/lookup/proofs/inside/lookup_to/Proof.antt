@@ -1,13 +1,10 @@
 -- `lookup_to` meets its contract: a position is within the steps of the table. Assumes nothing.
-use mathlib.Core.Path.{_≡_}
-use Prim.Native.Nat.{_-_}
 use native.Mathlib.Nat.{mul-le-mul-right}
 use native.Mathlib.Omega.{arith}
-use lib.ListN.{length}
 use lib.Dec.{lit<, lit≤}
 use denote.Ref.{now}
-use Rattle.lookup.specs.Lookup.{lookup16}
 use Rattle.lookup.proofs.Weigh.{product-le}
+use Rattle.lookup.proofs.LookupLaws.{looked-up-read}
 use borrow.Author.Needs.{needs}
 use Rattle.lookup.proofs.inside.lookup_to.Statement.{statement}
 use Rattle.lookup.proofs.inside.lookup_to.Tie as tie
@@ -31,11 +28,9 @@ cast-result : tie.Need-cast-result
 cast-result c = search needs
 
 returns : tie.Need-returns
-unfolding lookup16
 returns c =
     let s = c .before .before .before in
-    let e : s .args .top ≡ length (now (s .args .table)) - 1 = omega arith in
-    cc
+    looked-up-read (now (s .args .table)) _ _ (s .pre .0) (c .before .wide .ensures .0) (c .weighted .ensures .0)
 
 pub lookup-to-spec : {M : Type 1} → statement M
 lookup-to-spec =

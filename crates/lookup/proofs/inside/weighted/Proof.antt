@@ -1,7 +1,7 @@
 -- `weighted` meets its contract: both entries are within the table by the bound on the steps. Assumes nothing.
 use native.Mathlib.Nat.{mod-lt}
-use Rattle.lookup.specs.Lookup.{weighted}
 use Rattle.lookup.proofs.Steps.{steps-fit, lower-lt, upper-lt}
+use Rattle.lookup.proofs.Sum.{sum-read}
 use borrow.Author.Needs.{needs}
 use Rattle.lookup.proofs.inside.weighted.Statement.{statement}
 use Rattle.lookup.proofs.inside.weighted.Tie as tie
@@ -27,8 +27,11 @@ mix-requires c κs =
     (c .before .entry .ensures .1, c .entry2 .ensures .1, mod-lt _ (p .pos), p .small)
 
 returns : tie.Need-returns
-unfolding weighted
-returns c = (cc, c .mix .ensures .1)
+returns c =
+    let reads = c .before .before in (
+      sum-read _ _ _ (reads .before .div-ceil .ensures) (reads .entry .ensures .0) (c .before .entry2 .ensures .0) (c .mix .ensures .0),
+      c .mix .ensures .1,
+    )
 
 pub weighted-spec : {M : Type 1} → statement M
 weighted-spec =

@@ -1,0 +1,2 @@
+-- `Promises`: what the call promises.
+pub mod Promises

@@ -1,0 +1,3 @@
+-- `RowLaws`: what many lookups have to do with single ones. `Promises`: each promise names one answer.
+pub mod RowLaws
+pub mod Promises
