@@ -49,19 +49,19 @@ use Rattle.para.specs.Promises as para
 use Rattle.para.proofs.Promises as para-laws
 use Rattle.para_writer.specs.Promises as para-writer
 use Rattle.para_writer.proofs.Promises as para-writer-laws
-use Rattle.brassgroat.specs.declared.answers.Sample.{Sample}
-use Rattle.brassgroat.specs.declared.answers.Position.{Position}
-use Rattle.brassgroat.specs.declared.lookups.Code.{Code}
-use Rattle.brassgroat.specs.declared.floats.Real.{Real}
-use Rattle.brassgroat.specs.declared.parametrics.Parametric.{Parametric}
-use Rattle.brassgroat.specs.declared.verdicts.Monotony.{Monotony}
-use Rattle.brassgroat.specs.declared.verdicts.Degeneration.{Degeneration}
-use Rattle.brassgroat.specs.declared.curv_tags.Count.{Count}
+use Rattle.plain_answers.specs.declared.Sample.{Sample}
+use Rattle.plain_answers.specs.declared.Position.{Position}
+use Rattle.plain_answers.specs.declared.Code.{Code}
+use Rattle.plain_answers.specs.declared.Real.{Real}
+use Rattle.plain_answers.specs.declared.Parametric.{Parametric}
+use Rattle.plain_answers.specs.declared.Monotony.{Monotony}
+use Rattle.plain_answers.specs.declared.Degeneration.{Degeneration}
+use Rattle.plain_answers.specs.declared.Count.{Count}
 use Rattle.brassgroat.specs.declared.curv_tags.Part.{Part}
-use Rattle.brassgroat.specs.declared.para_tags.Raw.{Raw}
-use Rattle.brassgroat.specs.declared.para_tags.Para.{Para}
+use Rattle.plain_answers.specs.declared.Raw.{Raw}
+use Rattle.plain_answers.specs.declared.Para.{Para}
 use Rattle.brassgroat.specs.Carried.{Carried, PartCarried}
-use Rattle.brassgroat.specs.Answers.{asSample, asPosition, asCode, asReal, asParametric, asDirection, asMonotony, asDegeneration, asCount, fromRaw, asPara}
+use Rattle.plain_answers.specs.Answers.{asSample, asPosition, asCode, asReal, asParametric, asDirection, asMonotony, asDegeneration, asCount, fromRaw, asPara}
 
 -- One answer of the library is one of the face; and so it is beside a later state.
 module _ {L R : Type 0} {places : L → R} {r s : R} where

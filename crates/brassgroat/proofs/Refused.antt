@@ -17,18 +17,18 @@ use Rattle.degeneration.specs.declared.Degenerated.{Degenerated}
 use Rattle.curv.specs.declared.Counted.{Counted}
 use Rattle.para.specs.declared.Read.{Read}
 use Rattle.para.specs.Answers.{noNumbers}
-use Rattle.brassgroat.specs.declared.answers.Sample.{Sample}
-use Rattle.brassgroat.specs.declared.answers.Position.{Position}
-use Rattle.brassgroat.specs.declared.lookups.Code.{Code}
-use Rattle.brassgroat.specs.declared.floats.Real.{Real}
-use Rattle.brassgroat.specs.declared.parametrics.Parametric.{Parametric}
-use Rattle.brassgroat.specs.declared.verdicts.Monotony.{Monotony}
-use Rattle.brassgroat.specs.declared.verdicts.Degeneration.{Degeneration}
-use Rattle.brassgroat.specs.declared.curv_tags.Count.{Count}
+use Rattle.plain_answers.specs.declared.Sample.{Sample}
+use Rattle.plain_answers.specs.declared.Position.{Position}
+use Rattle.plain_answers.specs.declared.Code.{Code}
+use Rattle.plain_answers.specs.declared.Real.{Real}
+use Rattle.plain_answers.specs.declared.Parametric.{Parametric}
+use Rattle.plain_answers.specs.declared.Monotony.{Monotony}
+use Rattle.plain_answers.specs.declared.Degeneration.{Degeneration}
+use Rattle.plain_answers.specs.declared.Count.{Count}
 use Rattle.brassgroat.specs.declared.curv_tags.Part.{Part}
-use Rattle.brassgroat.specs.declared.para_tags.Para.{Para}
+use Rattle.plain_answers.specs.declared.Para.{Para}
 use Rattle.brassgroat.specs.Carried.{Carried, PartCarried}
-use Rattle.brassgroat.specs.Answers.{asSample, asPosition, asCode, asReal, asCurve, asParametric, asRaw, asMonotony, asDegeneration, asCount, asPara}
+use Rattle.plain_answers.specs.Answers.{asSample, asPosition, asCode, asReal, asCurve, asParametric, asRaw, asMonotony, asDegeneration, asCount, asPara}
 use Rattle.brassgroat.proofs.Parts.{part-refused}
 use Rattle.brassgroat.proofs.One.{bg-part-one}
 

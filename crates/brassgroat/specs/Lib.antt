@@ -1,3 +1,2 @@
--- `Carried`: how a promise of the library becomes one of the face. `Answers`: the places of each answer that crosses.
-pub mod Answers
+-- `Carried`: how a promise of the library becomes one of the face.
 pub mod Carried

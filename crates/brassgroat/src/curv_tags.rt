@@ -1,24 +1,16 @@
 // The curv tag.
-use crate::answers::number_of_done;
-use curv::Counted;
 use curv::count_entries;
 use curv::entry_bytes;
 use curv::read_curv;
 use curv_writer::write_curv;
-use table::number;
-ghost use mathlib.Core.Path.{_≡_};
+use plain_answers::Count;
+use plain_answers::inside::as_count;
+use plain_answers::inside::number_of_done;
 ghost use Rattle.table.specs.Answers.{numberOfDone};
 ghost use Rattle.curv.specs.Promises.{CountPromise, ReadPromise};
 ghost use Rattle.curv_writer.specs.Promises.{WritePromise};
 ghost use Rattle.brassgroat.specs.Carried.{Carried, PartCarried};
-ghost use Rattle.brassgroat.specs.Answers.{asCount};
-
-// How many entries a tag has.
-#[repr(C)]
-pub struct Count {
-    pub refusal: u32,
-    pub entries: usize,
-}
+ghost use Rattle.plain_answers.specs.Answers.{asCount};
 
 // Which part of a tag its entries' bytes are: a slice does not cross back, so where it starts and how long it is.
 #[repr(C)]
@@ -26,21 +18,6 @@ pub struct Part {
     pub refusal: u32,
     pub start: usize,
     pub len: usize,
-}
-
-pub fn as_count(answer: Counted) -> Count
-    ensures { λ r. ⌜ r ≡ asCount answer ⌝ }
-{
-    match answer {
-        Counted::Entries(entries) => Count {
-            refusal: 0,
-            entries,
-        },
-        Counted::Refused(why) => Count {
-            refusal: number(why),
-            entries: 0,
-        },
-    }
 }
 
 #[no_mangle]

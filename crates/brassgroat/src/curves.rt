@@ -1,8 +1,8 @@
 // The work on a curve's table.
-use crate::answers::number_of_done;
 use curve::accept;
 use curve::start;
 use nudge::nudge;
+use plain_answers::inside::number_of_done;
 use table::Density;
 ghost use lib.ListN.{length};
 ghost use Rattle.table.specs.Answers.{numberOfDone};

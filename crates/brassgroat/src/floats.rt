@@ -1,39 +1,19 @@
 // Floats: the float lookups, the passthrough table, and numbers rounded to f32.
-use crate::answers::number_of_done;
-use interp::Interpolated;
 use interp::lut_interp_linear;
 use interp::lut_interp_linear_float;
 use passthrough::passthrough_table_impl;
+use plain_answers::Real;
+use plain_answers::inside::as_real;
+use plain_answers::inside::number_of_done;
 use rounding::nearest_f64_to_f32;
 use rounding::s15_fixed16_number_to_float;
 use rounding::u8_fixed_8number_to_float;
-use table::number;
-ghost use mathlib.Core.Path.{_≡_};
 ghost use Rattle.table.specs.Answers.{numberOfDone};
 ghost use Rattle.rounding.specs.Nearest.{NarrowPromise, U8Fixed8Promise, S15Fixed16Promise};
 ghost use Rattle.interp.specs.Promises.{FloatPromise, LinearPromise};
 ghost use Rattle.passthrough.specs.Promises.{PassthroughPromise};
 ghost use Rattle.brassgroat.specs.Carried.{Carried};
-ghost use Rattle.brassgroat.specs.Answers.{asReal};
-
-// A float.
-#[repr(C)]
-pub struct Real {
-    pub refusal: u32,
-    pub value: f32,
-}
-
-pub fn as_real(answer: Interpolated) -> Real
-    ensures { λ r. ⌜ r ≡ asReal answer ⌝ }
-{
-    match answer {
-        Interpolated::Value(value) => Real { refusal: 0, value },
-        Interpolated::Refused(why) => Real {
-            refusal: number(why),
-            value: 0.0,
-        },
-    }
-}
+ghost use Rattle.plain_answers.specs.Answers.{asReal};
 
 #[no_mangle]
 pub extern "C" fn bg_lut_interp_linear_float(table: &[f32], x: f32) -> Real

@@ -1,11 +1,11 @@
 // The house curve.
-use crate::answers::Sample;
-use crate::answers::as_sample;
-use crate::answers::number_of_done;
+use plain_answers::Sample;
+use plain_answers::inside::as_sample;
+use plain_answers::inside::number_of_done;
 ghost use Rattle.table.specs.Answers.{numberOfDone};
 ghost use Rattle.house.specs.Promises.{EntryPromise, FillPromise};
 ghost use Rattle.brassgroat.specs.Carried.{Carried};
-ghost use Rattle.brassgroat.specs.Answers.{asSample};
+ghost use Rattle.plain_answers.specs.Answers.{asSample};
 
 #[no_mangle]
 pub extern "C" fn bg_house_entry(index: usize) -> Sample

@@ -1,11 +1,11 @@
 // From density back to drive.
-use crate::answers::Position;
-use crate::answers::as_position;
-use crate::answers::number_of_done;
 use inverse::lut_inverse_interp16;
 use invert::invert_lut;
 use least::least_input;
 use least_row::least_input_row;
+use plain_answers::Position;
+use plain_answers::inside::as_position;
+use plain_answers::inside::number_of_done;
 use table::Density;
 ghost use Rattle.table.specs.Answers.{numberOfDone};
 ghost use Rattle.least.specs.Promises.{LeastPromise};
@@ -13,7 +13,7 @@ ghost use Rattle.least_row.specs.Promises.{LeastRowPromise};
 ghost use Rattle.inverse.specs.Promises.{InversePromise};
 ghost use Rattle.invert.specs.Promises.{InvertPromise};
 ghost use Rattle.brassgroat.specs.Carried.{Carried};
-ghost use Rattle.brassgroat.specs.Answers.{asPosition};
+ghost use Rattle.plain_answers.specs.Answers.{asPosition};
 
 #[no_mangle]
 pub extern "C" fn bg_least_input(table: &[u16], density: Density) -> Position

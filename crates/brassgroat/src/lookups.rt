@@ -1,40 +1,20 @@
 // Looking up.
-use crate::answers::Sample;
-use crate::answers::as_sample;
-use crate::answers::number_of_done;
-use gamma::Coded;
 use gamma::lut_interp_linear_gamma_impl;
 use lookup::lut_interp_linear16;
+use plain_answers::Code;
+use plain_answers::Sample;
+use plain_answers::inside::as_code;
+use plain_answers::inside::as_sample;
+use plain_answers::inside::number_of_done;
 use rows::bake;
 use rows::lut_interp_linear16_row;
 use table::Drive;
-use table::number;
-ghost use mathlib.Core.Path.{_≡_};
 ghost use Rattle.table.specs.Answers.{numberOfDone};
 ghost use Rattle.lookup.specs.Promises.{LookupPromise};
 ghost use Rattle.rows.specs.Promises.{RowPromise, BakePromise};
 ghost use Rattle.gamma.specs.Promises.{GammaPromise};
 ghost use Rattle.brassgroat.specs.Carried.{Carried};
-ghost use Rattle.brassgroat.specs.Answers.{asSample, asCode};
-
-// The gamma lookup's code.
-#[repr(C)]
-pub struct Code {
-    pub refusal: u32,
-    pub code: u16,
-}
-
-pub fn as_code(answer: Coded) -> Code
-    ensures { λ r. ⌜ r ≡ asCode answer ⌝ }
-{
-    match answer {
-        Coded::Value(code) => Code { refusal: 0, code },
-        Coded::Refused(why) => Code {
-            refusal: number(why),
-            code: 0,
-        },
-    }
-}
+ghost use Rattle.plain_answers.specs.Answers.{asSample, asCode};
 
 #[no_mangle]
 pub extern "C" fn bg_lut_interp_linear16(table: &[u16], position: Drive) -> Sample

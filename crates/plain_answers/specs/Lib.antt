@@ -1,0 +1,2 @@
+-- `Answers`: the places of each answer that crosses.
+pub mod Answers

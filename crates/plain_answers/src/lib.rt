@@ -1,0 +1,95 @@
+// The library's answers as C and Rust see them: each a struct of plain places, the refusal's number first and 0 in every other place of a refused one.
+// include/brassgroat.h has the same structs; the face, brassgroat, hands them over.
+use table::Density;
+use table::Drive;
+
+pub mod inside;
+
+// A sample.
+#[repr(C)]
+pub struct Sample {
+    pub refusal: u32,
+    pub density: Density,
+}
+
+// A position.
+#[repr(C)]
+pub struct Position {
+    pub refusal: u32,
+    pub drive: Drive,
+}
+
+// The gamma lookup's code.
+#[repr(C)]
+pub struct Code {
+    pub refusal: u32,
+    pub code: u16,
+}
+
+// A float.
+#[repr(C)]
+pub struct Real {
+    pub refusal: u32,
+    pub value: f32,
+}
+
+// Seven floats, by ICC.1's letters.
+#[repr(C)]
+pub struct Curve {
+    pub g: f32,
+    pub a: f32,
+    pub b: f32,
+    pub c: f32,
+    pub d: f32,
+    pub e: f32,
+    pub f: f32,
+}
+
+// A parametric curve.
+#[repr(C)]
+pub struct Parametric {
+    pub refusal: u32,
+    pub curve: Curve,
+}
+
+// Whether a curve goes one way, and how many steps are against it.
+#[repr(C)]
+pub struct Monotony {
+    pub refusal: u32,
+    pub yes: bool,
+    pub violations: usize,
+}
+
+// Whether a curve stands still at an end.
+#[repr(C)]
+pub struct Degeneration {
+    pub refusal: u32,
+    pub yes: bool,
+}
+
+// How many entries a curv tag has.
+#[repr(C)]
+pub struct Count {
+    pub refusal: u32,
+    pub entries: usize,
+}
+
+// Seven raw 16.16 numbers, by ICC.1's letters.
+#[repr(C)]
+pub struct Raw {
+    pub g: i32,
+    pub a: i32,
+    pub b: i32,
+    pub c: i32,
+    pub d: i32,
+    pub e: i32,
+    pub f: i32,
+}
+
+// How many numbers a para tag has, and seven, of which the others are 0.
+#[repr(C)]
+pub struct Para {
+    pub refusal: u32,
+    pub count: usize,
+    pub numbers: Raw,
+}
