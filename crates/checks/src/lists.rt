@@ -31,48 +31,60 @@ pub fn put_entry(entries: &mut [u16], i: usize, v: u16) {
     }
 }
 
-// The first n bytes.
-pub fn first_bytes<'a>(bytes: &'a [u8], n: usize) -> &'a [u8] {
-    if n <= bytes.len() {
-        return &bytes[0..n];
+// The bytes from one index to before another; none where there are not so many.
+pub fn part<'a>(bytes: &'a [u8], from: usize, end: usize) -> &'a [u8] {
+    if end < from {
+        return &bytes[0..0];
     }
-    bytes
+    if bytes.len() < end {
+        return &bytes[0..0];
+    }
+    &bytes[from..end]
 }
 
-// The bytes from index n on.
-pub fn rest_bytes<'a>(bytes: &'a [u8], n: usize) -> &'a [u8] {
-    if n <= bytes.len() {
-        return &bytes[n..];
+// The length of a text without the blanks at its end.
+pub fn trimmed(text: &[u8]) -> usize {
+    let mut n = text.len();
+    while 0 < n {
+        if byte_at(text, n - 1) != b' ' {
+            return n;
+        }
+        n -= 1;
     }
-    bytes
+    0
 }
 
-// The first n entries.
-pub fn first_entries<'a>(entries: &'a [u16], n: usize) -> &'a [u16] {
-    if n <= entries.len() {
-        return &entries[0..n];
+// The first n entries; none where there are not so many.
+pub fn entries_part<'a>(entries: &'a [u16], n: usize) -> &'a [u16] {
+    if entries.len() < n {
+        return &entries[0..0];
     }
-    entries
+    &entries[0..n]
 }
 
-// The entries from index n on.
-pub fn rest_entries<'a>(entries: &'a [u16], n: usize) -> &'a [u16] {
-    if n <= entries.len() {
-        return &entries[n..];
+// Whether the first entries of a room are these.
+pub fn entries_begin(room: &[u16], entries: &[u16]) -> bool {
+    if room.len() < entries.len() {
+        return false;
     }
-    entries
+    for i in 0..entries.len() {
+        if entry_at(room, i) != entry_at(entries, i) {
+            return false;
+        }
+    }
+    true
 }
 
 pub fn same_entries(a: &[u16], b: &[u16]) -> bool {
     if a.len() != b.len() {
         return false;
     }
-    for i in 0..a.len() {
-        if entry_at(a, i) != entry_at(b, i) {
-            return false;
-        }
-    }
-    true
+    entries_begin(a, b)
+}
+
+// Whether the first bytes of a room are these.
+pub fn bytes_begin(room: &[u8], bytes: &[u8]) -> bool {
+    check::same(part(room, 0, bytes.len()), bytes)
 }
 
 pub fn fill_bytes(bytes: &mut [u8]) {
@@ -87,18 +99,26 @@ pub fn fill_entries(entries: &mut [u16]) {
     }
 }
 
-pub fn bytes_kept(bytes: &[u8]) -> bool {
-    for i in 0..bytes.len() {
-        if byte_at(bytes, i) != KEPT8 {
+// Whether a room of at least n bytes holds from there on what it held.
+pub fn bytes_kept(room: &[u8], n: usize) -> bool {
+    if room.len() < n {
+        return false;
+    }
+    for i in n..room.len() {
+        if byte_at(room, i) != KEPT8 {
             return false;
         }
     }
     true
 }
 
-pub fn entries_kept(entries: &[u16]) -> bool {
-    for i in 0..entries.len() {
-        if entry_at(entries, i) != KEPT16 {
+// The same of entries.
+pub fn entries_kept(room: &[u16], n: usize) -> bool {
+    if room.len() < n {
+        return false;
+    }
+    for i in n..room.len() {
+        if entry_at(room, i) != KEPT16 {
             return false;
         }
     }

@@ -1,95 +1,62 @@
 // Every tag cut short at each of its bytes, and with one to four bytes too many: refused with 8. The case is the length.
-use crate::curv_tags::curv_refused;
-use crate::para_tags::para_refused;
+use crate::refused::cut_refused;
+use crate::tags::CURV_NONE;
+use crate::tags::CURV_ONE;
+use crate::tags::CURV_TWO;
+use crate::tags::PARA_0;
+use crate::tags::PARA_1;
+use crate::tags::PARA_2;
+use crate::tags::PARA_3;
+use crate::tags::PARA_4;
 use crate::tags::curv_most;
-use crate::tags::curv_none;
-use crate::tags::curv_one;
-use crate::tags::curv_two;
-use crate::tags::para_0;
-use crate::tags::para_1;
-use crate::tags::para_2;
-use crate::tags::para_3;
-use crate::tags::para_4;
+use crate::tags::is_curv;
+use crate::tags::short_tag;
+use crate::tags::short_tags;
 use checks::lists::copy_bytes;
-use checks::lists::first_bytes;
 use checks::tally::Tally;
-use checks::tally::at;
 
-// The first n bytes are no curv tag.
-fn curv_cut(tally: &mut Tally, bytes: &[u8], n: usize) {
-    at(tally, n as u64);
-    curv_refused(tally, first_bytes(bytes, n), 8);
-}
-
-// Every length below the tag's.
-fn curv_shorter(tally: &mut Tally, tag: &[u8]) {
-    for n in 0..tag.len() {
-        curv_cut(tally, tag, n);
+// The first n of the bytes, where the tag has another length.
+fn cut(tally: Tally, curv: bool, bytes: &[u8], length: usize, n: usize) -> Tally {
+    if n == length {
+        return tally;
     }
+    cut_refused(tally, curv, bytes, n, 8)
 }
 
-// The n bytes of the tag and some zeros, as a padded tag has them. The room is longer than the tag, and zero.
-fn curv_longer(tally: &mut Tally, tag: &[u8], room: &mut [u8]) {
-    let n = tag.len();
-    copy_bytes(tag, room);
-    curv_cut(tally, room, std::num::wrapping_add_usize(n, 1));
-    curv_cut(tally, room, std::num::wrapping_add_usize(n, 2));
-    curv_cut(tally, room, std::num::wrapping_add_usize(n, 3));
-    curv_cut(tally, room, std::num::wrapping_add_usize(n, 4));
-}
-
-fn curv_lengths(tally: &mut Tally, tag: &[u8]) {
-    let mut room = [0u8; 20];
-    curv_shorter(tally, tag);
-    curv_longer(tally, tag, &mut room);
-}
-
-fn curv_most_lengths(tally: &mut Tally) {
-    let mut tag = [0u8; 131084];
-    let mut room = [0u8; 131088];
-    curv_most(&mut tag);
-    curv_shorter(tally, &tag);
-    curv_longer(tally, &tag, &mut room);
-}
-
-pub fn every_curv_length(tally: &mut Tally) {
-    curv_lengths(tally, &curv_none());
-    curv_lengths(tally, &curv_one());
-    curv_lengths(tally, &curv_two());
-    curv_most_lengths(tally);
-}
-
-// The first n bytes are no para tag.
-fn para_cut(tally: &mut Tally, bytes: &[u8], n: usize) {
-    at(tally, n as u64);
-    para_refused(tally, first_bytes(bytes, n), 8);
-}
-
-fn para_shorter(tally: &mut Tally, tag: &[u8]) {
-    for n in 0..tag.len() {
-        para_cut(tally, tag, n);
+// The bytes are a tag of this length and four zeros, as a padded tag has them.
+fn lengths(tally: Tally, curv: bool, bytes: &[u8], length: usize) -> Tally {
+    let mut after = tally;
+    for n in 0..std::num::wrapping_add_usize(length, 5) {
+        after = cut(after, curv, bytes, length, n);
     }
+    after
 }
 
-fn para_longer(tally: &mut Tally, tag: &[u8]) {
-    let n = tag.len();
+fn short_lengths(tally: Tally, which: usize) -> Tally {
+    let tags = short_tags();
+    let tag = short_tag(&tags, which);
     let mut room = [0u8; 44];
     copy_bytes(tag, &mut room);
-    para_cut(tally, &room, std::num::wrapping_add_usize(n, 1));
-    para_cut(tally, &room, std::num::wrapping_add_usize(n, 2));
-    para_cut(tally, &room, std::num::wrapping_add_usize(n, 3));
-    para_cut(tally, &room, std::num::wrapping_add_usize(n, 4));
+    lengths(tally, is_curv(which), &room, tag.len())
 }
 
-fn para_lengths(tally: &mut Tally, tag: &[u8]) {
-    para_shorter(tally, tag);
-    para_longer(tally, tag);
+fn most_lengths(tally: Tally) -> Tally {
+    let mut room = [0u8; 131088];
+    curv_most(&mut room);
+    lengths(tally, true, &room, 131084)
 }
 
-pub fn every_para_length(tally: &mut Tally) {
-    para_lengths(tally, &para_0());
-    para_lengths(tally, &para_1());
-    para_lengths(tally, &para_2());
-    para_lengths(tally, &para_3());
-    para_lengths(tally, &para_4());
+pub fn every_curv_length(tally: Tally) -> Tally {
+    let tally = short_lengths(tally, CURV_NONE);
+    let tally = short_lengths(tally, CURV_ONE);
+    let tally = short_lengths(tally, CURV_TWO);
+    most_lengths(tally)
+}
+
+pub fn every_para_length(tally: Tally) -> Tally {
+    let tally = short_lengths(tally, PARA_0);
+    let tally = short_lengths(tally, PARA_1);
+    let tally = short_lengths(tally, PARA_2);
+    let tally = short_lengths(tally, PARA_3);
+    short_lengths(tally, PARA_4)
 }

@@ -8,40 +8,42 @@ mod cut;
 mod kinds;
 mod order;
 mod para_tags;
+mod refused;
 mod tags;
 
+use checks::lists::part;
 use checks::tally::Tally;
-use checks::tally::close;
 
-fn shapes(tally: &mut Tally) {
-    kinds::every_curv(tally);
-    close(tally, b"curv layouts");
-    kinds::every_para(tally);
-    kinds::quotients(tally);
-    close(tally, b"para layouts");
-    changed::every_curv_byte(tally);
-    close(tally, b"curv, each byte changed");
-    changed::every_para_byte(tally);
-    close(tally, b"para, each byte changed");
+// Ends group k, which has a row of 27 bytes here.
+fn group(tally: Tally, k: u8) -> Tally {
+    let from = 27 * (k as usize);
+    let end = from + 27;
+    let names = b"curv layouts               para layouts               \
+                  curv, each byte changed    para, each byte changed    \
+                  curv, cut short and padded para, cut short and padded \
+                  curv counts                                           \
+                  curv, wrong in two ways    para, wrong in two ways    \
+                  buffers of tags            ";
+    tally.close(part(names, from, end))
 }
 
-fn refusals(tally: &mut Tally) {
-    cut::every_curv_length(tally);
-    close(tally, b"curv, cut short and padded");
-    cut::every_para_length(tally);
-    close(tally, b"para, cut short and padded");
-    counts::every_count(tally);
-    close(tally, b"curv counts");
-    order::of_curv(tally);
-    close(tally, b"curv, wrong in two ways");
-    order::of_para(tally);
-    close(tally, b"para, wrong in two ways");
-    order::of_buffers(tally);
-    close(tally, b"buffers of tags");
+fn shapes(tally: Tally) -> Tally {
+    let tally = group(kinds::every_curv(tally), 0);
+    let tally = kinds::every_para(tally);
+    let tally = group(kinds::quotients(tally), 1);
+    let tally = group(changed::every_curv_byte(tally), 2);
+    group(changed::every_para_byte(tally), 3)
+}
+
+fn refusals(tally: Tally) -> Tally {
+    let tally = group(cut::every_curv_length(tally), 4);
+    let tally = group(cut::every_para_length(tally), 5);
+    let tally = group(counts::every_count(tally), 6);
+    let tally = group(order::of_curv(tally), 8);
+    let tally = group(order::of_para(tally), 9);
+    group(order::of_buffers(tally), 10)
 }
 
 fn main() {
-    let mut tally: Tally = [0; 3];
-    shapes(&mut tally);
-    refusals(&mut tally);
+    refusals(shapes(Tally::new()));
 }

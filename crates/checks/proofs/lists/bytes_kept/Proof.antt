@@ -5,10 +5,13 @@ use Rattle.checks.proofs.lists.bytes_kept.Statement.{statement}
 use Rattle.checks.proofs.lists.bytes_kept.Tie as tie
 
 abbrev Inv-loop : tie.InvT-loop
-Inv-loop bytes i₀ i-end i = Unit {0}
+Inv-loop room n i₀ i-end i = Unit {0}
 
 abbrev μ-loop : tie.MeasureT-loop
-μ-loop bytes i₀ i-end i = i-end - i
+μ-loop room n i₀ i-end i = i-end - i
+
+returns : tie.Need-returns Inv-loop μ-loop
+returns c = tt
 
 loop-holds : tie.Need-loop-holds Inv-loop μ-loop
 loop-holds c = tt
@@ -16,8 +19,8 @@ loop-holds c = tt
 byte-at-requires : tie.Need-byte-at-requires Inv-loop μ-loop
 byte-at-requires c κs = tt
 
-returns : tie.Need-returns Inv-loop μ-loop
-returns c = tt
+returns-2 : tie.Need-returns-2 Inv-loop μ-loop
+returns-2 c = tt
 
 add-i : tie.Need-add-i Inv-loop μ-loop
 add-i c = omega arith
@@ -28,8 +31,8 @@ loop-less c = omega arith
 loop-again : tie.Need-loop-again Inv-loop μ-loop
 loop-again c = tt
 
-returns-2 : tie.Need-returns-2 Inv-loop μ-loop
-returns-2 c = tt
+returns-3 : tie.Need-returns-3 Inv-loop μ-loop
+returns-3 c = tt
 
 pub bytes-kept-spec : {M : Type 1} → statement M
-bytes-kept-spec = tie.close (tie.spec Inv-loop μ-loop loop-holds byte-at-requires returns add-i loop-less loop-again returns-2)
+bytes-kept-spec = tie.close (tie.spec Inv-loop μ-loop returns loop-holds byte-at-requires returns-2 add-i loop-less loop-again returns-3)

@@ -1,8 +1,8 @@
--- `same_entries` is safe and ends: the measure is what is left of the range. Assumes nothing.
+-- `entries_begin` is safe and ends: the measure is what is left of the range. Assumes nothing.
 use Prim.Native.Nat.{_-_}
 use native.Mathlib.Omega.{arith}
-use Rattle.checks.proofs.lists.same_entries.Statement.{statement}
-use Rattle.checks.proofs.lists.same_entries.Tie as tie
+use Rattle.checks.proofs.lists.entries_begin.Statement.{statement}
+use Rattle.checks.proofs.lists.entries_begin.Tie as tie
 
 abbrev Inv-loop : tie.InvT-loop
 Inv-loop a b i₀ i-end i = Unit {0}
@@ -37,5 +37,5 @@ loop-again c = tt
 returns-3 : tie.Need-returns-3 Inv-loop μ-loop
 returns-3 c = tt
 
-pub same-entries-spec : {M : Type 1} → statement M
-same-entries-spec = tie.close (tie.spec Inv-loop μ-loop returns loop-holds entry-at-requires entry-at-requires-2 returns-2 add-i loop-less loop-again returns-3)
+pub entries-begin-spec : {M : Type 1} → statement M
+entries-begin-spec = tie.close (tie.spec Inv-loop μ-loop returns loop-holds entry-at-requires entry-at-requires-2 returns-2 add-i loop-less loop-again returns-3)
