@@ -1,13 +1,14 @@
 // The curv tag.
 use curv::count_entries;
-use curv::entry_bytes;
-use curv::read_curv;
+use curv_part::entry_bytes;
+use curv_reader::read_curv;
 use curv_writer::write_curv;
 use plain_answers::Count;
 use plain_answers::inside::as_count;
 use plain_answers::inside::number_of_done;
 ghost use Rattle.table.specs.Answers.{numberOfDone};
-ghost use Rattle.curv.specs.Promises.{CountPromise, ReadPromise};
+ghost use Rattle.curv.specs.Promises.{CountPromise};
+ghost use Rattle.curv_reader.specs.Promises.{ReadPromise};
 ghost use Rattle.curv_writer.specs.Promises.{WritePromise};
 ghost use Rattle.brassgroat.specs.Carried.{Carried, PartCarried};
 ghost use Rattle.plain_answers.specs.Answers.{asCount};
