@@ -5,34 +5,37 @@ use checks::answers::of_looked;
 use checks::lists::KEPT16;
 use checks::lists::entries_kept;
 use checks::lists::entry_at;
+use checks::names::BUFFER;
+use checks::names::ENTRY;
+use checks::names::FILL;
+use checks::names::SUM;
 use checks::tally::Tally;
-use checks::tally::at;
-use checks::tally::holds;
 use checks::tally::refused;
-use checks::tally::same;
 use house::entry;
 use house::fill;
 
-fn entry_is(tally: &mut Tally, i: usize, wanted: u64) {
-    at(tally, i as u64);
-    same(tally, b"entry", of_looked(entry(i)), wanted);
+fn entry_is(tally: Tally, i: usize, wanted: u64) -> Tally {
+    tally.at(i as u64).same(ENTRY, of_looked(entry(i)), wanted)
 }
 
 // Entry 9 is the last that is 0.
-fn entries(tally: &mut Tally) {
-    entry_is(tally, 0, 0);
-    entry_is(tally, 1, 0);
-    entry_is(tally, 9, 0);
-    entry_is(tally, 10, 1);
-    entry_is(tally, 100, 196);
-    entry_is(tally, 511, 11557);
-    entry_is(tally, 512, 11613);
-    entry_is(tally, 1022, 65375);
-    entry_is(tally, 1023, 65535);
-    entry_is(tally, 1024, refused(3));
-    entry_is(tally, 65536, refused(3));
-    entry_is(tally, 0x1_0000_0000, refused(3));
-    entry_is(tally, 0xffff_ffff_ffff_ffff, refused(3));
+fn entries(tally: Tally) -> Tally {
+    let tally = entry_is(tally, 0, 0);
+    let tally = entry_is(tally, 1, 0);
+    let tally = entry_is(tally, 9, 0);
+    let tally = entry_is(tally, 10, 1);
+    let tally = entry_is(tally, 100, 196);
+    let tally = entry_is(tally, 511, 11557);
+    let tally = entry_is(tally, 512, 11613);
+    let tally = entry_is(tally, 1022, 65375);
+    entry_is(tally, 1023, 65535)
+}
+
+fn no_entries(tally: Tally) -> Tally {
+    let tally = entry_is(tally, 1024, refused(3));
+    let tally = entry_is(tally, 65536, refused(3));
+    let tally = entry_is(tally, 0x1_0000_0000, refused(3));
+    entry_is(tally, 0xffff_ffff_ffff_ffff, refused(3))
 }
 
 // The sum of all entries: few slips keep it.
@@ -48,28 +51,38 @@ fn wide(x: u16) -> u64 {
     x as u64
 }
 
-fn filled(tally: &mut Tally, table: &mut [u16]) {
-    at(tally, 1024);
-    same(tally, b"fill", of_done(fill(table)), 0);
-    same(tally, b"entry 511", wide(entry_at(table, 511)), 11557);
-    same(tally, b"entry 1023", wide(entry_at(table, 1023)), 65535);
-    same(tally, b"sum", sum(table), 19187718);
+fn table_is(tally: Tally, table: &[u16]) -> Tally {
+    let tally = tally.same(ENTRY, wide(entry_at(table, 511)), 11557);
+    let tally = tally.same(ENTRY, wide(entry_at(table, 1023)), 65535);
+    tally.same(SUM, sum(table), 19187718)
 }
 
-fn fill_refused(tally: &mut Tally) {
-    let mut short = [KEPT16; 1023];
-    let mut long = [KEPT16; 1025];
-    at(tally, 1023);
-    same(tally, b"fill", of_done(fill(&mut short)), refused(6));
-    holds(tally, b"buffer", entries_kept(&short));
-    at(tally, 1025);
-    same(tally, b"fill", of_done(fill(&mut long)), refused(6));
-    holds(tally, b"buffer", entries_kept(&long));
-}
-
-pub fn every_entry(tally: &mut Tally) {
+fn filled(tally: Tally) -> Tally {
     let mut table = [KEPT16; 1024];
-    entries(tally);
-    filled(tally, &mut table);
-    fill_refused(tally);
+    let tally = tally.at(1024).same(FILL, of_done(fill(&mut table)), 0);
+    table_is(tally, &table)
+}
+
+fn fill_refused(tally: Tally, room: &mut [u16]) -> Tally {
+    let tally = tally.at(room.len() as u64);
+    let tally = tally.same(FILL, of_done(fill(room)), refused(6));
+    tally.holds(BUFFER, entries_kept(room, 0))
+}
+
+fn one_short(tally: Tally) -> Tally {
+    let mut room = [KEPT16; 1023];
+    fill_refused(tally, &mut room)
+}
+
+fn one_long(tally: Tally) -> Tally {
+    let mut room = [KEPT16; 1025];
+    fill_refused(tally, &mut room)
+}
+
+pub fn every_entry(tally: Tally) -> Tally {
+    let tally = entries(tally);
+    let tally = no_entries(tally);
+    let tally = filled(tally);
+    let tally = one_short(tally);
+    one_long(tally)
 }

@@ -3,28 +3,36 @@
 use checks::answers::of_degenerated;
 use checks::answers::of_monotonic;
 use checks::answers::violations;
-use checks::lists::first_entries;
 use checks::lists::put_entry;
+use checks::names::DEGENERATED;
+use checks::names::FALLING;
+use checks::names::FALLS;
+use checks::names::RISES;
+use checks::names::RISING;
 use checks::tally::Tally;
-use checks::tally::at;
 use checks::tally::refused;
-use checks::tally::same;
 use degeneration::is_curve_degenerated;
 use monotonic::Direction;
 use monotonic::is_curve_monotonic;
 
-// That a rising curve is so judged, 1 for yes, with so many falls.
-fn rising(tally: &mut Tally, table: &[u16], yes: u64, falls: u64) {
-    let answer = is_curve_monotonic(table, Direction::Rising);
-    same(tally, b"rising", of_monotonic(answer), yes);
-    same(tally, b"falls", violations(answer), falls);
+// The first n entries are so judged as a rising curve, 1 for yes, with so many falls.
+fn rising(tally: Tally, room: &[u16], n: usize, yes: u64, falls: u64) -> Tally {
+    if room.len() < n {
+        return tally.no_room();
+    }
+    let answer = is_curve_monotonic(&room[0..n], Direction::Rising);
+    let tally = tally.same(RISING, of_monotonic(answer), yes);
+    tally.same(FALLS, violations(answer), falls)
 }
 
-// That a falling curve is so judged, 1 for yes, with so many rises.
-fn falling(tally: &mut Tally, table: &[u16], yes: u64, rises: u64) {
-    let answer = is_curve_monotonic(table, Direction::Falling);
-    same(tally, b"falling", of_monotonic(answer), yes);
-    same(tally, b"rises", violations(answer), rises);
+// The first n entries are so judged as a falling curve, 1 for yes, with so many rises.
+fn falling(tally: Tally, room: &[u16], n: usize, yes: u64, rises: u64) -> Tally {
+    if room.len() < n {
+        return tally.no_room();
+    }
+    let answer = is_curve_monotonic(&room[0..n], Direction::Falling);
+    let tally = tally.same(FALLING, of_monotonic(answer), yes);
+    tally.same(RISES, violations(answer), rises)
 }
 
 // An entry of a curve that rises by 1 at each step, but falls at step k.
@@ -57,49 +65,30 @@ fn fill_falls(table: &mut [u16], k: usize) {
     }
 }
 
-// 20 entries with one step against the direction: no. The other direction has the 18 other steps against it.
-fn no_in_20(tally: &mut Tally, table: &mut [u16], k: usize) {
-    at(tally, k as u64);
-    fill_rises(table, k);
-    rising(tally, table, 0, 1);
-    falling(tally, table, 0, 18);
-    fill_falls(table, k);
-    falling(tally, table, 0, 1);
-    rising(tally, table, 0, 18);
+// n entries that rise, but for step k: judged so as rising; falling has the other steps against it.
+fn one_fall(tally: Tally, n: usize, k: usize, yes: u64, others: u64) -> Tally {
+    let mut room = [0u16; 21];
+    fill_rises(&mut room, k);
+    let tally = rising(tally, &room, n, yes, 1);
+    falling(tally, &room, n, 0, others)
 }
 
-fn one_in_20(tally: &mut Tally, k: usize) {
-    let mut table = [0u16; 20];
-    no_in_20(tally, &mut table, k);
-}
-
-// 21 entries with one step against the direction: yes.
-fn yes_in_21(tally: &mut Tally, table: &mut [u16], k: usize) {
-    at(tally, k as u64);
-    fill_rises(table, k);
-    rising(tally, table, 1, 1);
-    falling(tally, table, 0, 19);
-    fill_falls(table, k);
-    falling(tally, table, 1, 1);
-    rising(tally, table, 0, 19);
-}
-
-fn one_in_21(tally: &mut Tally, k: usize) {
-    let mut table = [0u16; 21];
-    yes_in_21(tally, &mut table, k);
+// n entries that fall, but for step k: judged so as falling; rising has the other steps against it.
+fn one_rise(tally: Tally, n: usize, k: usize, yes: u64, others: u64) -> Tally {
+    let mut room = [0u16; 21];
+    fill_falls(&mut room, k);
+    let tally = falling(tally, &room, n, yes, 1);
+    rising(tally, &room, n, 0, others)
 }
 
 // The one step at each of its places.
-fn each_in_20(tally: &mut Tally) {
-    for k in 1..20 {
-        one_in_20(tally, k);
+fn each_place(tally: Tally, n: usize, yes: u64, others: u64) -> Tally {
+    let mut after = tally;
+    for k in 1..n {
+        after = one_fall(after.at(k as u64), n, k, yes, others);
+        after = one_rise(after, n, k, yes, others);
     }
-}
-
-fn each_in_21(tally: &mut Tally) {
-    for k in 1..21 {
-        one_in_21(tally, k);
-    }
+    after
 }
 
 fn pair_entry(i: usize, pairs: usize, a: u16, b: u16) -> u16 {
@@ -119,80 +108,76 @@ fn fill_pairs(table: &mut [u16], pairs: usize, a: u16, b: u16) {
     }
 }
 
-// So many steps against the direction in the first n entries, either way round.
-fn pairs_in(tally: &mut Tally, room: &mut [u16; 65536], n: usize, pairs: usize, yes: u64) {
-    at(tally, n as u64);
+// So many falls, and as many rises, in n entries.
+fn pairs_of(tally: Tally, room: &mut [u16], n: usize, pairs: usize, yes: u64) -> Tally {
     fill_pairs(room, pairs, 1, 0);
-    rising(tally, first_entries(room, n), yes, pairs as u64);
+    let tally = rising(tally, room, n, yes, pairs as u64);
     fill_pairs(room, pairs, 0, 1);
-    falling(tally, first_entries(room, n), yes, pairs as u64);
+    falling(tally, room, n, yes, pairs as u64)
+}
+
+fn pairs_in(tally: Tally, n: usize, pairs: usize, yes: u64) -> Tally {
+    let mut room = [0u16; 65536];
+    pairs_of(tally.at(n as u64), &mut room, n, pairs, yes)
 }
 
 // The same edge for more steps, up to the longest table: 20 times as many entries no, one more yes.
-fn many_against(tally: &mut Tally, room: &mut [u16; 65536]) {
-    pairs_in(tally, room, 40, 2, 0);
-    pairs_in(tally, room, 41, 2, 1);
-    pairs_in(tally, room, 100, 5, 0);
-    pairs_in(tally, room, 101, 5, 1);
-    pairs_in(tally, room, 65520, 3276, 0);
-    pairs_in(tally, room, 65521, 3276, 1);
-    pairs_in(tally, room, 65536, 3276, 1);
-    pairs_in(tally, room, 65536, 3277, 0);
+fn many_against(tally: Tally) -> Tally {
+    let tally = pairs_in(tally, 40, 2, 0);
+    let tally = pairs_in(tally, 41, 2, 1);
+    let tally = pairs_in(tally, 100, 5, 0);
+    let tally = pairs_in(tally, 101, 5, 1);
+    let tally = pairs_in(tally, 65520, 3276, 0);
+    let tally = pairs_in(tally, 65521, 3276, 1);
+    let tally = pairs_in(tally, 65536, 3276, 1);
+    pairs_in(tally, 65536, 3277, 0)
 }
 
-// Equal neighbours are against neither direction, and a table of no entry or one has no steps.
-fn flat(tally: &mut Tally, table: &[u16]) {
-    at(tally, table.len() as u64);
-    rising(tally, table, 1, 0);
-    falling(tally, table, 1, 0);
+// n equal entries are so judged, with so many steps against either direction.
+fn flat(tally: Tally, table: &[u16], n: usize, yes: u64, against: u64) -> Tally {
+    let tally = rising(tally.at(n as u64), table, n, yes, against);
+    falling(tally, table, n, yes, against)
 }
 
-fn none_against(tally: &mut Tally) {
-    let table = [7u16; 65536];
-    flat(tally, &table[0..0]);
-    flat(tally, &table[0..1]);
-    flat(tally, &table[0..2]);
-    flat(tally, &table[0..20]);
-    flat(tally, &table);
+// Equal neighbours are against neither direction, and a table of no entry or one has no steps. Above 65,536 entries there is no verdict.
+fn none_against(tally: Tally, table: &[u16]) -> Tally {
+    let tally = flat(tally, table, 0, 1, 0);
+    let tally = flat(tally, table, 1, 1, 0);
+    let tally = flat(tally, table, 2, 1, 0);
+    let tally = flat(tally, table, 20, 1, 0);
+    let tally = flat(tally, table, 65536, 1, 0);
+    flat(tally, table, 65537, refused(1), refused(1))
 }
 
 // The shortest tables that have a step.
-fn two_entries(tally: &mut Tally) {
-    let up = [3u16, 4];
-    let down = [4u16, 3];
-    at(tally, 2);
-    rising(tally, &up, 1, 0);
-    falling(tally, &up, 0, 1);
-    rising(tally, &down, 0, 1);
-    falling(tally, &down, 1, 0);
+fn two_rising(tally: Tally, table: &[u16]) -> Tally {
+    let tally = rising(tally.at(2), table, 2, 1, 0);
+    falling(tally, table, 2, 0, 1)
 }
 
-fn monotonic_refused(tally: &mut Tally) {
-    let table = [7u16; 65537];
-    at(tally, 65537);
-    rising(tally, &table, refused(1), refused(1));
-    falling(tally, &table, refused(1), refused(1));
+fn two_falling(tally: Tally, table: &[u16]) -> Tally {
+    let tally = rising(tally.at(2), table, 2, 0, 1);
+    falling(tally, table, 2, 1, 0)
 }
 
-pub fn monotonic(tally: &mut Tally) {
-    let mut room = [0u16; 65536];
-    each_in_20(tally);
-    each_in_21(tally);
-    many_against(tally, &mut room);
-    none_against(tally);
-    two_entries(tally);
-    monotonic_refused(tally);
+pub fn monotonic(tally: Tally) -> Tally {
+    let tally = each_place(tally, 20, 0, 18);
+    let tally = each_place(tally, 21, 1, 19);
+    let tally = many_against(tally);
+    let tally = none_against(tally, &[7; 65537]);
+    let tally = two_rising(tally, &[3, 4]);
+    two_falling(tally, &[4, 3])
 }
 
-// That a curve is so judged, 1 for yes.
-fn degenerate(tally: &mut Tally, table: &[u16], yes: u64) {
-    at(tally, table.len() as u64);
-    same(
-        tally,
-        b"degenerated",
-        of_degenerated(is_curve_degenerated(table)),
-        yes,
-    );
+// The first n entries are so judged, 1 for yes.
+fn degenerate(tally: Tally, room: &[u16], n: usize, yes: u64) -> Tally {
+    if room.len() < n {
+        return tally.no_room();
+    }
+    let answer = is_curve_degenerated(&room[0..n]);
+    tally
+        .at(n as u64)
+        .same(DEGENERATED, of_degenerated(answer), yes)
 }
 
 // An entry of n: 5 in the first ones, 9 in the last ones, and no two neighbours equal between.
@@ -215,64 +200,63 @@ fn fill_runs(table: &mut [u16], n: usize, first: usize, last: usize) {
     }
 }
 
-// That n entries with these end runs are so judged.
-fn runs_are(
-    tally: &mut Tally,
-    room: &mut [u16; 65536],
-    n: usize,
-    first: usize,
-    last: usize,
-    yes: u64,
-) {
-    fill_runs(room, n, first, last);
-    degenerate(tally, first_entries(room, n), yes);
+// n entries with these end runs are so judged.
+fn runs(tally: Tally, n: usize, first: usize, last: usize, yes: u64) -> Tally {
+    let mut room = [0u16; 65536];
+    fill_runs(&mut room, n, first, last);
+    degenerate(tally, &room, n, yes)
 }
 
-// An end run of 19 no, 20 yes, at either end, in tables of any length: no share of the table.
-fn end_runs(tally: &mut Tally, room: &mut [u16; 65536]) {
-    runs_are(tally, room, 20, 19, 1, 0);
-    runs_are(tally, room, 20, 1, 19, 0);
-    runs_are(tally, room, 21, 20, 1, 1);
-    runs_are(tally, room, 21, 1, 20, 1);
-    runs_are(tally, room, 38, 19, 19, 0);
-    runs_are(tally, room, 60, 19, 1, 0);
-    runs_are(tally, room, 60, 20, 1, 1);
-    runs_are(tally, room, 60, 1, 19, 0);
-    runs_are(tally, room, 60, 1, 20, 1);
-    runs_are(tally, room, 60, 19, 19, 0);
-    runs_are(tally, room, 60, 20, 20, 1);
-    runs_are(tally, room, 100, 5, 5, 0);
-    runs_are(tally, room, 65536, 19, 19, 0);
-    runs_are(tally, room, 65536, 20, 1, 1);
-    runs_are(tally, room, 65536, 1, 20, 1);
+// An end run of 19 no, 20 yes, at either end.
+fn end_runs(tally: Tally) -> Tally {
+    let tally = runs(tally, 20, 19, 1, 0);
+    let tally = runs(tally, 20, 1, 19, 0);
+    let tally = runs(tally, 21, 20, 1, 1);
+    let tally = runs(tally, 21, 1, 20, 1);
+    let tally = runs(tally, 38, 19, 19, 0);
+    let tally = runs(tally, 60, 19, 1, 0);
+    let tally = runs(tally, 60, 20, 1, 1);
+    let tally = runs(tally, 60, 1, 19, 0);
+    let tally = runs(tally, 60, 1, 20, 1);
+    let tally = runs(tally, 60, 19, 19, 0);
+    runs(tally, 60, 20, 20, 1)
+}
+
+// The same in long tables: no share of the table.
+fn long_end_runs(tally: Tally) -> Tally {
+    let tally = runs(tally, 100, 5, 5, 0);
+    let tally = runs(tally, 65536, 19, 19, 0);
+    let tally = runs(tally, 65536, 20, 1, 1);
+    runs(tally, 65536, 1, 20, 1)
 }
 
 // Runs of 19 at both ends, each parted by one entry from twenty more of its own.
-fn parted_runs(tally: &mut Tally, table: &mut [u16]) {
-    put_entry(table, 19, 1);
-    put_entry(table, 40, 1);
-    degenerate(tally, table, 0);
+fn parted_runs(tally: Tally) -> Tally {
+    let mut table = [7u16; 60];
+    put_entry(&mut table, 19, 1);
+    put_entry(&mut table, 40, 1);
+    degenerate(tally, &table, 60, 0)
 }
 
 // Tables of equal entries, whose run is the whole table, of each length below `end`.
-fn equal_lengths(tally: &mut Tally, table: &[u16], from: usize, end: usize, yes: u64) {
+fn equal_lengths(tally: Tally, table: &[u16], from: usize, end: usize, yes: u64) -> Tally {
+    let mut after = tally;
     for n in from..end {
-        degenerate(tally, first_entries(table, n), yes);
+        after = degenerate(after, table, n, yes);
     }
+    after
 }
 
-fn all_equal(tally: &mut Tally) {
-    let table = [7u16; 65537];
-    equal_lengths(tally, &table, 0, 20, 0);
-    equal_lengths(tally, &table, 20, 40, 1);
-    degenerate(tally, &table[0..65536], 1);
-    degenerate(tally, &table, refused(1));
+fn all_equal(tally: Tally, table: &[u16]) -> Tally {
+    let tally = equal_lengths(tally, table, 0, 20, 0);
+    let tally = equal_lengths(tally, table, 20, 40, 1);
+    let tally = degenerate(tally, table, 65536, 1);
+    degenerate(tally, table, 65537, refused(1))
 }
 
-pub fn degenerated(tally: &mut Tally) {
-    let mut parted = [7u16; 60];
-    let mut room = [0u16; 65536];
-    end_runs(tally, &mut room);
-    parted_runs(tally, &mut parted);
-    all_equal(tally);
+pub fn degenerated(tally: Tally) -> Tally {
+    let tally = end_runs(tally);
+    let tally = long_end_runs(tally);
+    let tally = parted_runs(tally);
+    all_equal(tally, &[7; 65537])
 }

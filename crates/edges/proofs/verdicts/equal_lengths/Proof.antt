@@ -5,16 +5,13 @@ use Rattle.edges.proofs.verdicts.equal_lengths.Statement.{statement}
 use Rattle.edges.proofs.verdicts.equal_lengths.Tie as tie
 
 abbrev Inv-loop : tie.InvT-loop
-Inv-loop tally₀ table from end yes' n₀ tally n = Unit {0}
+Inv-loop table from end yes' after₀ n₀ after n = Unit {0}
 
 abbrev μ-loop : tie.MeasureT-loop
-μ-loop tally₀ table from end yes' n₀ tally n = end - n
+μ-loop table from end yes' after₀ n₀ after n = end - n
 
 loop-holds : tie.Need-loop-holds Inv-loop μ-loop
 loop-holds c = tt
-
-first-entries-requires : tie.Need-first-entries-requires Inv-loop μ-loop
-first-entries-requires c κs = tt
 
 degenerate-requires : tie.Need-degenerate-requires Inv-loop μ-loop
 degenerate-requires c κs = tt
@@ -32,15 +29,4 @@ returns : tie.Need-returns Inv-loop μ-loop
 returns c = tt
 
 pub equal-lengths-spec : {M : Type 1} → statement M
-equal-lengths-spec =
-    tie.close
-    (tie.spec
-    Inv-loop
-    μ-loop
-    loop-holds
-    first-entries-requires
-    degenerate-requires
-    add-n
-    loop-less
-    loop-again
-    returns)
+equal-lengths-spec = tie.close (tie.spec Inv-loop μ-loop loop-holds degenerate-requires add-n loop-less loop-again returns)
