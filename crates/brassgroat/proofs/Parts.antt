@@ -8,8 +8,8 @@ use denote.Ref.{RefT, now}
 use lib.ListN.{length}
 use Rattle.table.specs.Refusals.{Verdict, granted, refused, numberIn, ifGranted}
 use Rattle.table.proofs.Refusals.{number-above}
-use Rattle.curv.specs.Promises.{PartPromise, tagVerdict, past}
-use Rattle.curv.specs.Tag.{partOf}
+use Rattle.curv.specs.Promises.{tagVerdict}
+use Rattle.curv_part.specs.Promises.{partOf, past, PartPromise}
 use Rattle.brassgroat.specs.Carried.{PartCarried}
 
 module _ {tag part : RefT (List ℕ)} {why : ℕ} (kept : PartPromise tag part why) where

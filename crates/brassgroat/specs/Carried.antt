@@ -4,7 +4,7 @@ use mathlib.Core.Path.{_≡_}
 use mathlib.Core.List.{List}
 use denote.Ref.{RefT, now}
 use lib.ListN.{length}
-use Rattle.curv.specs.Promises.{PartPromise, past}
+use Rattle.curv_part.specs.Promises.{PartPromise, past}
 use Rattle.brassgroat.specs.declared.curv_tags.Part.{Part}
 
 -- What crosses is `places` of an answer of the library that keeps the library's promise.

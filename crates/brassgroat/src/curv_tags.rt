@@ -2,13 +2,14 @@
 use crate::answers::number_of_done;
 use curv::Counted;
 use curv::count_entries;
-use curv::entry_bytes;
-use curv::read_curv;
+use curv_part::entry_bytes;
+use curv_reader::read_curv;
 use curv_writer::write_curv;
 use table::number;
 ghost use mathlib.Core.Path.{_≡_};
 ghost use Rattle.table.specs.Answers.{numberOfDone};
-ghost use Rattle.curv.specs.Promises.{CountPromise, ReadPromise};
+ghost use Rattle.curv.specs.Promises.{CountPromise};
+ghost use Rattle.curv_reader.specs.Promises.{ReadPromise};
 ghost use Rattle.curv_writer.specs.Promises.{WritePromise};
 ghost use Rattle.brassgroat.specs.Carried.{Carried, PartCarried};
 ghost use Rattle.brassgroat.specs.Answers.{asCount};

@@ -16,8 +16,8 @@ use checks::tally::holds;
 use checks::tally::refused;
 use checks::tally::same;
 use curv::count_entries;
-use curv::entry_bytes;
-use curv::read_curv;
+use curv_part::entry_bytes;
+use curv_reader::read_curv;
 use curv_writer::write_curv;
 
 // The answer where a buffer of this program is too short for its own question: equal to none that is wanted.

@@ -15,7 +15,7 @@ use checks::tally::same;
 use para::Numbers;
 use para::Read;
 use para::read_para;
-use para::read_parametric_curve;
+use para_curve::read_parametric_curve;
 use para_writer::write_para;
 use parametric::ParametricCurve;
 use parametric::Unified;
