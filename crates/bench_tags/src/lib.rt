@@ -168,9 +168,9 @@ pub fn count(s: Streams, output: &mut [u8; 65535], tag: &[u8]) -> Streams {
 
 fn read_into(tag: &[u8], table: &mut [u16], n: usize) -> Done {
     if n < table.len() {
-        return curv::read_curv(tag, &mut table[0..n]);
+        return curv_reader::read_curv(tag, &mut table[0..n]);
     }
-    curv::read_curv(tag, table)
+    curv_reader::read_curv(tag, table)
 }
 
 // How many places there are after a call that was to fill n.
@@ -216,7 +216,7 @@ pub fn read(
 // `part`.
 pub fn part(s: Streams, output: &mut [u8; 65535], tag: &[u8]) -> Streams {
     let mut why: u32 = 0;
-    let bytes = curv::entry_bytes(tag, &mut why);
+    let bytes = curv_part::entry_bytes(tag, &mut why);
     if why > 0 {
         return put_refused_number(s, output, why);
     }

@@ -41,16 +41,18 @@ use Rattle.degeneration.specs.Promises.{DegeneratedPromise}
 use Rattle.degeneration.proofs.Promises.{degenerated-one}
 use Rattle.house.specs.Promises.{EntryPromise, FillPromise}
 use Rattle.house.proofs.Promises.{entry-one, fill-one}
-use Rattle.curv.specs.Promises as curv
-use Rattle.curv.proofs.Promises as curv-laws
+use Rattle.curv.specs.Promises.{CountPromise}
+use Rattle.curv.proofs.Promises.{count-one}
 use Rattle.curv_reader.specs.Promises as curv-reader
 use Rattle.curv_reader.proofs.Promises as curv-reader-laws
-use Rattle.curv_part.specs.Promises as curv-part
-use Rattle.curv_part.proofs.Promises as curv-part-laws
+use Rattle.curv_part.specs.Promises.{past}
+use Rattle.curv_part.proofs.Promises.{part-one}
 use Rattle.curv_writer.specs.Promises as curv-writer
 use Rattle.curv_writer.proofs.Promises as curv-writer-laws
 use Rattle.para.specs.Promises as para
 use Rattle.para.proofs.Promises as para-laws
+use Rattle.para_curve.specs.Promises.{CurvePromise}
+use Rattle.para_curve.proofs.Promises.{curve-one}
 use Rattle.para_writer.specs.Promises as para-writer
 use Rattle.para_writer.proofs.Promises as para-writer-laws
 use Rattle.plain_answers.specs.declared.Sample.{Sample}
@@ -147,8 +149,8 @@ bg-fill-one {out} {out′} {out″} = one-both (λ a b. fill-one out a b out′ 
 
 -- Tags.
 module _ {b : List ℕ} where
-  pub bg-count-one : {r s : Count} → Carried asCount (curv.CountPromise b) r → Carried asCount (curv.CountPromise b) s → r ≡ s
-  bg-count-one = one-answer (λ a b x y. curv-laws.count-one x y)
+  pub bg-count-one : {r s : Count} → Carried asCount (CountPromise b) r → Carried asCount (CountPromise b) s → r ≡ s
+  bg-count-one = one-answer (λ a b x y. count-one x y)
 
   pub bg-read-one : {out out′ out″ : List ℕ} {r s : ℕ} → Carried numberOfDone (λ d. curv-reader.ReadPromise b out d out′) r → Carried numberOfDone (λ d. curv-reader.ReadPromise b out d out″) s → (r ≡ s) × (out′ ≡ out″)
   bg-read-one = one-both (λ a b x y. curv-reader-laws.read-one x y)
@@ -156,8 +158,8 @@ module _ {b : List ℕ} where
   pub bg-para-one : {r s : Para} → Carried asPara (para.ReadPromise b) r → Carried asPara (para.ReadPromise b) s → r ≡ s
   bg-para-one = one-answer (λ a b x y. para-laws.read-one x y)
 
-  pub bg-curve-one : {r s : Parametric} → Carried asParametric (para.CurvePromise b) r → Carried asParametric (para.CurvePromise b) s → r ≡ s
-  bg-curve-one = one-answer (λ a b x y. para-laws.curve-one x y)
+  pub bg-curve-one : {r s : Parametric} → Carried asParametric (CurvePromise b) r → Carried asParametric (CurvePromise b) s → r ≡ s
+  bg-curve-one = one-answer (λ a b x y. curve-one x y)
 
 pub bg-write-curv-one : {t out out′ out″ : List ℕ} {r s : ℕ} → Carried numberOfDone (λ d. curv-writer.WritePromise t out d out′) r → Carried numberOfDone (λ d. curv-writer.WritePromise t out d out″) s → (r ≡ s) × (out′ ≡ out″)
 bg-write-curv-one = one-both (λ a b x y. curv-writer-laws.write-one x y)
@@ -168,8 +170,8 @@ bg-write-para-one = one-both (λ a b x y. para-writer-laws.write-one x y)
 -- The part of a tag: two starts that lead to one place are one.
 pub bg-part-one : {tag : RefT (List ℕ)} {r s : Part} → PartCarried tag r → PartCarried tag s → r ≡ s
 bg-part-one {tag} {r} {s} x y =
-    let same = curv-part-laws.part-one (x .kept) (y .kept) in
-    let place : curv-part.past (r .start) (tag .ptr) ≡ curv-part.past (s .start) (tag .ptr) = sym (x .start) ∙ same .2 ∙ y .start in
+    let same = part-one (x .kept) (y .kept) in
+    let place : past (r .start) (tag .ptr) ≡ past (s .start) (tag .ptr) = sym (x .start) ∙ same .2 ∙ y .start in
     let after : r .start + tag .ptr .1 ≡ s .start + tag .ptr .1 = ap (λ (p : ℕ × ℕ). p .1) place in
     let start : r .start ≡ s .start = omega arith in
     let len : r .len ≡ s .len = x .len ∙ ap length (same .1) ∙ sym (y .len) in

@@ -1,6 +1,6 @@
 // The para tag.
 use para::read_para;
-use para::read_parametric_curve;
+use para_curve::read_parametric_curve;
 use para_writer::write_para;
 use plain_answers::Para;
 use plain_answers::Parametric;
@@ -10,7 +10,8 @@ use plain_answers::inside::as_parametric;
 use plain_answers::inside::from_raw;
 use plain_answers::inside::number_of_done;
 ghost use Rattle.table.specs.Answers.{numberOfDone};
-ghost use Rattle.para.specs.Promises.{ReadPromise, CurvePromise};
+ghost use Rattle.para.specs.Promises.{ReadPromise};
+ghost use Rattle.para_curve.specs.Promises.{CurvePromise};
 ghost use Rattle.para_writer.specs.Promises.{WritePromise};
 ghost use Rattle.brassgroat.specs.Carried.{Carried};
 ghost use Rattle.plain_answers.specs.Answers.{fromRaw, asPara, asParametric};

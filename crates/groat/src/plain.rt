@@ -26,7 +26,11 @@ fn answer_alone(
         Request::Count => bench_tags::count(s, output, tag),
         Request::Part => bench_tags::part(s, output, tag),
         Request::Para => bench_tags::read_para(s, output, tag),
-        Request::Curve => bench_floats::put_unified(s, output, para::read_parametric_curve(tag)),
+        Request::Curve => bench_floats::put_unified(
+            s,
+            output,
+            para_curve::read_parametric_curve(tag),
+        ),
         Request::Plot => plot(s, output, table),
         _ => put_help(s, output),
     }

@@ -22,7 +22,7 @@ use checks::tally::refused;
 use para::Numbers;
 use para::Read;
 use para::read_para;
-use para::read_parametric_curve;
+use para_curve::read_parametric_curve;
 use para_writer::write_para;
 use parametric::ParametricCurve;
 use parametric::Unified;

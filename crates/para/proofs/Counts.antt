@@ -1,16 +1,14 @@
 -- How many numbers a function type has, by the five types. Assumes nothing.
 use mathlib.Core.Path.{_≡_, _∙_, refl, sym, ap}
-use mathlib.Core.Bool.{true}
 use mathlib.Core.List.{[], _∷_}
 use Prim.Native.Nat.{ℕ, zero, suc, _≤_}
 use native.Mathlib.Omega.{arith}
 use lib.ListN.{getD}
 use lib.Dec.{lit≤}
-use Rattle.parametric.specs.Unify.{counted}
 use Rattle.para.specs.Tag.{countOf}
 
 -- what holds of each type up to 4
-five : (P : ℕ → Type 0) → P 0 → P 1 → P 2 → P 3 → P 4 → (t : ℕ) → t ≤ 4 → P t
+pub five : (P : ℕ → Type 0) → P 0 → P 1 → P 2 → P 3 → P 4 → (t : ℕ) → t ≤ 4 → P t
 five P p q r s u zero h = p
 five P p q r s u (suc zero) h = q
 five P p q r s u (suc (suc zero)) h = r
@@ -31,11 +29,6 @@ last-type =
 pub count-most : (t : ℕ) → t ≤ 4 → countOf t ≤ 7
 unfolding countOf
 count-most = five (λ t. countOf t ≤ 7) (lit≤ tt) (lit≤ tt) (lit≤ tt) (lit≤ tt) (lit≤ tt)
-
--- a curve may have so many
-pub count-counted : (t : ℕ) → t ≤ 4 → counted (countOf t) ≡ true
-unfolding countOf counted
-count-counted = five (λ t. counted (countOf t) ≡ true) refl refl refl refl refl
 
 -- the type that has n
 typeWith : ℕ → ℕ

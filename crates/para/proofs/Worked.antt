@@ -1,33 +1,28 @@
--- Worked examples, by computation: a tag of each type read, with numbers below 0; a tag read as a curve; and each refusal, with the order of the refusals. Assumes nothing.
+-- Worked examples, by computation: a tag of each type read, with numbers below 0; and each refusal, with the order of the refusals. Assumes nothing.
 use mathlib.Core.Path.{refl}
 use mathlib.Core.List.{List, [], _∷_}
 use Prim.Native.Nat.{ℕ}
 use lib.IntN.{ℤ, pos, negsuc}
-use lib.Ieee.{binary32, ofBits, round, neg, div}
-use Rattle.table.specs.Fill.{tabulated}
 use Rattle.table.specs.declared.Refusal.the-variants.{TagLength, WrongSignature, ReservedNotZero, FunctionType}
 use Rattle.icc.specs.Bytes.{be16, be32}
 use Rattle.icc.specs.Opening.{stands}
-use Rattle.rounding.specs.Nearest.{ratio}
-use Rattle.parametric.specs.declared.Unified.{Unified}
-use Rattle.parametric.specs.Unify.{unified}
 use Rattle.para.specs.declared.Numbers.{Numbers}
 use Rattle.para.specs.declared.Read.{Read}
 use Rattle.para.specs.Signed.{signedOf}
 use Rattle.para.specs.Tag.{countOf, total, rawAt, numbersOf}
-use Rattle.para.specs.Promises.{tagVerdict, ReadPromise, CurvePromise}
+use Rattle.para.specs.Promises.{tagVerdict, ReadPromise}
 
 abbrev raw : ℤ → ℤ → ℤ → ℤ → ℤ → ℤ → ℤ → Numbers
 raw g a b c d e f = record { g = g; a = a; b = b; c = c; d = d; e = e; f = f }
 
 -- the first twelve bytes of a para tag of type t, and a whole tag of each type
-abbrev begun : ℕ → List ℕ → List ℕ
+abbrev pub begun : ℕ → List ℕ → List ℕ
 begun t l = 112 ∷ 97 ∷ 114 ∷ 97 ∷ 0 ∷ 0 ∷ 0 ∷ 0 ∷ 0 ∷ t ∷ 0 ∷ 0 ∷ l
 
 abbrev one : List ℕ
 one = begun 0 (0 ∷ 2 ∷ 51 ∷ 51 ∷ [])
 
-abbrev three : List ℕ
+abbrev pub three : List ℕ
 three = begun 1 (0 ∷ 2 ∷ 0 ∷ 0 ∷ 0 ∷ 1 ∷ 0 ∷ 0 ∷ 255 ∷ 255 ∷ 128 ∷ 0 ∷ [])
 
 abbrev four : List ℕ
@@ -65,35 +60,6 @@ five-read = record { number = refl; count = refl; numbers = refl }
 seven-read : ReadPromise seven (Read.Parameters 7 (raw (pos 1) (pos 256) (pos 65536) (pos 16777216) (pos 2147483647) (negsuc 2147483646) (negsuc 131071)))
 unfolding tagVerdict stands total be16 be32 countOf numbersOf rawAt signedOf
 seven-read = record { number = refl; count = refl; numbers = refl }
-
--- Read as a curve: 2, 1 and -0.5, and so d = 0.5. A number that no f32 holds is rounded to the even one of its two nearest.
-three-curve : CurvePromise three (Unified.Curve (record {
-  g = ofBits binary32 0x4000_0000;
-  a = ofBits binary32 0x3f80_0000;
-  b = ofBits binary32 0xbf00_0000;
-  c = ofBits binary32 0;
-  d = ofBits binary32 0x3f00_0000;
-  e = ofBits binary32 0;
-  f = ofBits binary32 0;
-}))
-unfolding tagVerdict stands total be16 be32 countOf rawAt signedOf tabulated unified ratio ofBits round neg div
-three-curve = record { number = refl; value = refl }
-
-tied-curve : CurvePromise (begun 0 (1 ∷ 0 ∷ 0 ∷ 1 ∷ [])) (Unified.Curve (record {
-  g = ofBits binary32 0x4380_0000;
-  a = ofBits binary32 0x3f80_0000;
-  b = ofBits binary32 0;
-  c = ofBits binary32 0;
-  d = ofBits binary32 0;
-  e = ofBits binary32 0;
-  f = ofBits binary32 0;
-}))
-unfolding tagVerdict stands total be16 be32 countOf rawAt signedOf tabulated unified ratio ofBits round
-tied-curve = record { number = refl; value = refl }
-
-refused-curve : CurvePromise [] (Unified.Refused TagLength)
-unfolding tagVerdict
-refused-curve = record { number = refl; value = refl }
 
 -- Each refusal of a reading, the earlier one where two apply.
 short : ReadPromise (112 ∷ 97 ∷ 114 ∷ 97 ∷ 0 ∷ 0 ∷ 0 ∷ 0 ∷ 0 ∷ 0 ∷ 0 ∷ []) (Read.Refused TagLength)

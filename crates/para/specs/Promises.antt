@@ -1,24 +1,16 @@
--- What each call of this crate promises: when it is refused and by which number, and its values. Assumes nothing.
+-- What a reading promises: when it is refused and by which number, and its values. Assumes nothing.
 use Prim.Native.Nat.{ℕ}
 use mathlib.Core.Path.{_≡_}
 use mathlib.Core.List.{List}
 use lib.ListN.{length}
 use lib.Dec.{leb}
-use lib.IntN.{ℤ}
-use lib.Ieee.{Float}
-use Rattle.table.specs.Fill.{tabulated}
 use Rattle.table.specs.Refusals.{Verdict, granted, rung, numberIn, ifGranted}
 use Rattle.table.specs.declared.Refusal.the-variants.{TagLength, WrongSignature, ReservedNotZero, FunctionType}
 use Rattle.icc.specs.Opening.{reservedZero}
-use Rattle.rounding.specs.Nearest.{ratio}
-use Rattle.parametric.specs.declared.ParametricCurve.{ParametricCurve}
-use Rattle.parametric.specs.declared.Unified.{Unified}
-use Rattle.parametric.specs.Unify.{unified}
-use Rattle.parametric.specs.Promises.{numberOfUnified, valueOfUnified, noCurve}
 use Rattle.para.specs.declared.Numbers.{Numbers}
 use Rattle.para.specs.declared.Read.{Read}
 use Rattle.para.specs.Answers.{numberOfRead, countOfRead, numbersOfRead, noNumbers}
-use Rattle.para.specs.Tag.{isPara, typeOf, typeZeros, countOf, total, rawAt, numbersOf}
+use Rattle.para.specs.Tag.{isPara, typeOf, typeZeros, countOf, total, numbersOf}
 
 -- The tag's own checks, which every call that reads a tag makes: fewer than 12 bytes, 8; a wrong signature, 9; a reserved byte that is not zero,
 -- among bytes 4 to 7 or 10 and 11, 10; a function type above 4, 11; a wrong total, 8.
@@ -37,14 +29,3 @@ pub record ReadPromise (b : List ℕ) (r : Read) : Type 0 where
   pub number : numberOfRead r ≡ numberIn (tagVerdict b)
   pub count : countOfRead r ≡ ifGranted (tagVerdict b) (countOf (typeOf b)) 0
   pub numbers : numbersOfRead r ≡ ifGranted (tagVerdict b) (numbersOf b) noNumbers
-
--- Reading a tag as a curve: refused as the tag is. A raw number r becomes the f32 nearest to r / 65536, and the curve is unified from these.
-abbrev pub nearest : ℤ → Float
-nearest r = ratio r 65536
-
-abbrev pub curveOf : List ℕ → ParametricCurve
-curveOf b = unified (tabulated (λ k. nearest (rawAt b k)) (countOf (typeOf b)))
-
-pub record CurvePromise (b : List ℕ) (r : Unified) : Type 0 where
-  pub number : numberOfUnified r ≡ numberIn (tagVerdict b)
-  pub value : valueOfUnified r ≡ ifGranted (tagVerdict b) (curveOf b) noCurve

@@ -1,21 +1,15 @@
-// The para tag of ICC.1: its numbers read, and read as a curve.
+// The para tag of ICC.1: its checks, and its numbers read.
 use icc::inside::has_signature;
 use icc::inside::reserved;
 use icc::inside::u16_at;
 use icc::inside::u32_at;
-use parametric::ParametricCurve;
-use parametric::Unified;
-use rounding::s15_fixed16_number_to_float;
-use table::Done;
 use table::Refusal;
 ghost use mathlib.Core.Path.{_≡_};
-ghost use mathlib.Core.List.{map};
 ghost use Prim.Native.Nat.{_≤_};
-ghost use lib.ListN.{length, take};
-ghost use Rattle.parametric.specs.Promises.{NewPromise};
+ghost use lib.ListN.{length};
 ghost use Rattle.para.specs.Signed.{signedOf};
-ghost use Rattle.para.specs.Tag.{typeZeros, tagLength, total, listed, usedAt, used, rawAt};
-ghost use Rattle.para.specs.Promises.{ReadPromise, nearest, CurvePromise};
+ghost use Rattle.para.specs.Tag.{typeZeros, tagLength, total, usedAt, used, rawAt};
+ghost use Rattle.para.specs.Promises.{ReadPromise};
 
 pub mod inside;
 
@@ -117,31 +111,4 @@ pub fn read_para(tag: &[u8]) -> Read
         return Read::Refused(Refusal::TagLength);
     }
     Read::Parameters(n, numbers_of(tag, n))
-}
-
-// The curve of the first n numbers.
-fn curve_from(numbers: Numbers, n: usize) -> Unified
-    requires { ⌜ n ≤ 7 ⌝ }
-    ensures { λ r. ⌜ NewPromise (take n (map nearest (listed numbers))) r ⌝ }
-{
-    let params = [
-        s15_fixed16_number_to_float(numbers.g),
-        s15_fixed16_number_to_float(numbers.a),
-        s15_fixed16_number_to_float(numbers.b),
-        s15_fixed16_number_to_float(numbers.c),
-        s15_fixed16_number_to_float(numbers.d),
-        s15_fixed16_number_to_float(numbers.e),
-        s15_fixed16_number_to_float(numbers.f),
-    ];
-    ParametricCurve::new(&params[..n])
-}
-
-// Reads a tag as a curve.
-pub fn read_parametric_curve(tag: &[u8]) -> Unified
-    ensures { λ r. ⌜ CurvePromise (now (tag .entry)) r ⌝ }
-{
-    match read_para(tag) {
-        Read::Refused(why) => Unified::Refused(why),
-        Read::Parameters(n, numbers) => curve_from(numbers, n),
-    }
 }

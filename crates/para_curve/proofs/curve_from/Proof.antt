@@ -6,12 +6,12 @@ use lib.ListN.{take}
 use lib.Seq.{length-take-le}
 use lib.Ieee.{Float}
 use Rattle.parametric.specs.Promises.{NewPromise}
-use Rattle.para.specs.Promises.{nearest}
+use Rattle.para_curve.specs.Promises.{nearest}
 use Rattle.para.proofs.Complement.{passed}
 use Rattle.para.proofs.Places.{listed-made}
 use borrow.Author.Needs.{needs}
-use Rattle.para.proofs.curve_from.Statement.{statement}
-use Rattle.para.proofs.curve_from.Tie as tie
+use Rattle.para_curve.proofs.curve_from.Statement.{statement}
+use Rattle.para_curve.proofs.curve_from.Tie as tie
 
 s15-fixed16-number-to-float-requires : tie.Need-s15-fixed16-number-to-float-requires
 s15-fixed16-number-to-float-requires c κs = search needs

@@ -1,8 +1,9 @@
 -- `read_parametric_curve` meets its contract: refused as the reading is, and otherwise unified from what it read. Assumes nothing.
-use Rattle.para.proofs.Promises.{refused-read, granted-read, curve-refused, curve-granted}
+use Rattle.para.proofs.Promises.{refused-read, granted-read}
+use Rattle.para_curve.proofs.Promises.{curve-refused, curve-granted}
 use borrow.Author.Needs.{needs}
-use Rattle.para.proofs.read_parametric_curve.Statement.{statement}
-use Rattle.para.proofs.read_parametric_curve.Tie as tie
+use Rattle.para_curve.proofs.read_parametric_curve.Statement.{statement}
+use Rattle.para_curve.proofs.read_parametric_curve.Tie as tie
 
 read-para-requires : tie.Need-read-para-requires
 read-para-requires c κs = search needs

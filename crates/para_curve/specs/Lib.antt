@@ -1,0 +1,2 @@
+-- `Promises`: what reading a tag as a curve promises.
+pub mod Promises
