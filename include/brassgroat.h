@@ -71,7 +71,7 @@ typedef struct { uint32_t refusal; bg_curve curve; } bg_parametric;
 typedef struct { int32_t g, a, b, c, d, e, f; } bg_raw;
 typedef struct { uint32_t refusal; size_t count; bg_raw numbers; } bg_para;
 
-/* ---- Looking up (crates lookup and gamma) ---- */
+/* ---- Looking up (crates lookup, rows and gamma) ---- */
 
 /* The density at a position, by linear interpolation rounded down. Refused: 1. */
 bg_sample bg_lut_interp_linear16(const uint16_t *table, size_t table_len, bg_drive position);
@@ -96,7 +96,7 @@ uint32_t bg_bake(const uint16_t *table, size_t table_len, uint16_t *out, size_t 
  */
 bg_code bg_lut_interp_linear_gamma_impl(const uint16_t *table, size_t table_len, size_t inputs, size_t depth, size_t input);
 
-/* ---- Working on a curve (crate curve) ---- */
+/* ---- Working on a curve (crates curve and nudge) ---- */
 
 /* Makes the table the straight curve from 0 to 65535. Refused: 1 where table_len is below 2 or above 65,536. */
 uint32_t bg_start(uint16_t *table, size_t table_len);
@@ -107,7 +107,7 @@ uint32_t bg_accept(const uint16_t *table, size_t table_len);
 /* Sets one entry, where the density fits between its neighbours, and changes no other. Refused: 1; 3; 2; 4. */
 uint32_t bg_nudge(uint16_t *table, size_t table_len, size_t index, bg_density density);
 
-/* ---- From density back to drive (crates least, inverse and invert) ---- */
+/* ---- From density back to drive (crates least, least_row, inverse and invert) ---- */
 
 /* The smallest position whose density is at least the one given. Refused: 1; 2; 5 where no position reaches it. */
 bg_position bg_least_input(const uint16_t *table, size_t table_len, bg_density density);
@@ -129,7 +129,7 @@ bg_position bg_lut_inverse_interp16(const uint16_t *table, size_t table_len, bg_
  */
 uint32_t bg_invert_lut(const uint16_t *table, size_t table_len, uint16_t *out, size_t out_len);
 
-/* ---- Floats (crates interp and rounding): IEEE 754, one rounding for each operation ---- */
+/* ---- Floats (crates interp, passthrough and rounding): IEEE 754, one rounding for each operation ---- */
 
 /* The float at x in a table of floats; x above 1 or a NaN reads as 1, below 0 as 0. Refused: 1. */
 bg_real bg_lut_interp_linear_float(const float *table, size_t table_len, float x);
@@ -166,7 +166,7 @@ bg_parametric bg_parametric_curve_new(const float *params, size_t params_len);
  */
 bool bg_compare_parametric(const float *src, size_t src_len, const float *dst, size_t dst_len);
 
-/* ---- Verdicts (crate matan) ---- */
+/* ---- Verdicts (crates monotonic and degeneration) ---- */
 
 /*
  * Whether fewer than one entry in twenty steps against the direction, and how many do: falls where `rising`, else rises.
@@ -188,7 +188,7 @@ bg_sample bg_house_entry(size_t index);
 /* All entries. Refused: 6 where out_len is not 1,024. */
 uint32_t bg_house_fill(uint16_t *out, size_t out_len);
 
-/* ---- ICC tags (crates curv, curv_writer, para and para_writer); tag_len counts bytes ---- */
+/* ---- ICC tags (crates curv, curv_reader, curv_part, curv_writer, para, para_curve and para_writer); tag_len counts bytes ---- */
 
 /*
  * How many entries a curv tag has. Refused: 8 where the tag has fewer than 12 bytes; 9; 10; 1 where the count is above 65,536;
