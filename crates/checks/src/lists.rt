@@ -1,4 +1,5 @@
-// Slices read, changed and compared with no condition on the caller: an index or a length beyond the slice changes nothing.
+// Slices read, changed and compared with no condition on the caller. Past the end a byte reads as 0 and is not changed, a part is empty, and nothing begins so or is kept: a
+// slip of a program in its own lengths comes out as a wrong check.
 
 // What a buffer holds before a call that may have to leave it alone.
 pub const KEPT16: u16 = 0xa55a;
