@@ -2,21 +2,21 @@
 use crate::changes::change_table;
 use crate::changes::change_tag;
 use crate::plain::answer_plain;
-use bench_io::Streams;
-use bench_kept::After;
-use bench_kept::Kept;
-use bench_kept::bytes;
-use bench_kept::entries;
-use bench_kept::values;
-use bench_pictures::svg;
-use bench_questions::Question;
-use bench_questions::ask;
-use bench_requests::Request;
-use bench_words::Got;
-use bench_words::Place;
-use bench_words::Problem;
-use bench_words::put_problem;
-use bench_words::read_number;
+use groat_io::Streams;
+use groat_kept::After;
+use groat_kept::Kept;
+use groat_kept::bytes;
+use groat_kept::entries;
+use groat_kept::values;
+use groat_pictures::svg;
+use groat_questions::Question;
+use groat_questions::ask;
+use groat_requests::Request;
+use groat_words::Got;
+use groat_words::Place;
+use groat_words::Problem;
+use groat_words::put_problem;
+use groat_words::read_number;
 
 // Where the streams stand after a request, and what is kept.
 pub struct Answered {
@@ -142,13 +142,13 @@ fn answer_words(
 ) -> Streams {
     let n = kept.table;
     match request {
-        Request::Nudge => bench_tables::nudge(s, input, output, table, n),
-        Request::Invert => bench_tables::invert(s, input, output, entries(table, n), out),
-        Request::Monotonic => bench_tables::monotonic(s, input, output, entries(table, n), word),
-        Request::Passthrough => bench_floats::passthrough(s, input, output, first),
-        Request::Param => bench_floats::param(s, input, output, codes, first),
-        Request::Compare => bench_floats::compare(s, input, output, codes, first, second),
-        Request::Save => bench_tags::save(s, input, output, word, tag),
+        Request::Nudge => groat_tables::nudge(s, input, output, table, n),
+        Request::Invert => groat_tables::invert(s, input, output, entries(table, n), out),
+        Request::Monotonic => groat_tables::monotonic(s, input, output, entries(table, n), word),
+        Request::Passthrough => groat_floats::passthrough(s, input, output, first),
+        Request::Param => groat_floats::param(s, input, output, codes, first),
+        Request::Compare => groat_floats::compare(s, input, output, codes, first, second),
+        Request::Save => groat_tags::save(s, input, output, word, tag),
         Request::Svg => svg(s, input, output, word, entries(table, n)),
         _ => answer_questions(request, s, input, output, entries(table, n), floats),
     }
@@ -179,7 +179,7 @@ pub fn answer(
             )
         }
         Request::Floats => with_floats(
-            bench_floats::hold_floats(s, input, output, codes, floats, kept.floats),
+            groat_floats::hold_floats(s, input, output, codes, floats, kept.floats),
             kept,
         ),
         Request::Tag | Request::Load | Request::Write | Request::WritePara => with_tag(

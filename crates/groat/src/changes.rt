@@ -1,14 +1,14 @@
 // Requests that give the table or the tag anew.
-use bench_io::Streams;
-use bench_kept::After;
-use bench_kept::Kept;
-use bench_kept::bytes;
-use bench_kept::entries;
-use bench_requests::Request;
-use bench_words::Problem;
-use bench_words::ends_line;
-use bench_words::put_problem;
-use bench_words::skip_spaces;
+use groat_io::Streams;
+use groat_kept::After;
+use groat_kept::Kept;
+use groat_kept::bytes;
+use groat_kept::entries;
+use groat_requests::Request;
+use groat_words::Problem;
+use groat_words::ends_line;
+use groat_words::put_problem;
+use groat_words::skip_spaces;
 
 // Those whose line has no more words.
 fn change_table_alone(
@@ -29,9 +29,9 @@ fn change_table_alone(
         };
     }
     match request {
-        Request::UseHouse => bench_tables::use_house(here, output, table, before),
-        Request::Bake => bench_tables::bake(here, output, table, before, out),
-        _ => bench_tags::read(here, output, tag, table, before),
+        Request::UseHouse => groat_tables::use_house(here, output, table, before),
+        Request::Bake => groat_tables::bake(here, output, table, before, out),
+        _ => groat_tags::read(here, output, tag, table, before),
     }
 }
 
@@ -48,8 +48,8 @@ pub fn change_table(
 ) -> After {
     let before = kept.table;
     match request {
-        Request::Table => bench_tables::hold_table(s, input, output, codes, table, before),
-        Request::Start => bench_tables::start(s, input, output, table, before),
+        Request::Table => groat_tables::hold_table(s, input, output, codes, table, before),
+        Request::Start => groat_tables::start(s, input, output, table, before),
         _ => {
             change_table_alone(
                 request,
@@ -81,7 +81,7 @@ fn write(
             n: before,
         };
     }
-    bench_tags::write(here, output, table, tag, before)
+    groat_tags::write(here, output, table, tag, before)
 }
 
 pub fn change_tag(
@@ -98,9 +98,9 @@ pub fn change_tag(
 ) -> After {
     let before = kept.tag;
     match request {
-        Request::Tag => bench_tags::hold_tag(s, input, output, spare, tag, before),
-        Request::Load => bench_tags::load(s, input, output, word, spare, tag, before),
-        Request::WritePara => bench_tags::write_para(s, input, output, codes, tag, before),
+        Request::Tag => groat_tags::hold_tag(s, input, output, spare, tag, before),
+        Request::Load => groat_tags::load(s, input, output, word, spare, tag, before),
+        Request::WritePara => groat_tags::write_para(s, input, output, codes, tag, before),
         _ => write(s, input, output, entries(table, kept.table), tag, before),
     }
 }

@@ -2,17 +2,17 @@
 // docs/GROAT.md is its language.
 use crate::answers::Answered;
 use crate::answers::answer;
-use bench_io::INPUT_END;
-use bench_io::Streams;
-use bench_io::advance;
-use bench_io::flush;
-use bench_io::opened;
-use bench_io::put_byte;
-use bench_kept::Kept;
-use bench_requests::request_named;
-use bench_words::next_line;
-use bench_words::read_word;
-use bench_words::skip_spaces;
+use groat_io::INPUT_END;
+use groat_io::Streams;
+use groat_io::advance;
+use groat_io::flush;
+use groat_io::opened;
+use groat_io::put_byte;
+use groat_kept::Kept;
+use groat_requests::request_named;
+use groat_words::next_line;
+use groat_words::read_word;
+use groat_words::skip_spaces;
 
 mod answers;
 mod changes;
@@ -23,7 +23,7 @@ fn is_silent(now: u16) -> bool {
     if now == 35 {
         return true;
     }
-    bench_words::ends_line(now)
+    groat_words::ends_line(now)
 }
 
 // One line, up to the first byte of the next.

@@ -1,15 +1,15 @@
 // Requests that are one word, and change nothing.
-use bench_answers::put_bytes;
-use bench_answers::put_done;
-use bench_answers::put_shorts;
-use bench_io::Streams;
-use bench_pictures::plot;
-use bench_requests::Request;
-use bench_requests::put_help;
-use bench_words::Problem;
-use bench_words::ends_line;
-use bench_words::put_problem;
-use bench_words::skip_spaces;
+use groat_answers::put_bytes;
+use groat_answers::put_done;
+use groat_answers::put_shorts;
+use groat_io::Streams;
+use groat_pictures::plot;
+use groat_requests::Request;
+use groat_requests::put_help;
+use groat_words::Problem;
+use groat_words::ends_line;
+use groat_words::put_problem;
+use groat_words::skip_spaces;
 
 fn answer_alone(
     request: Request,
@@ -21,12 +21,12 @@ fn answer_alone(
     match request {
         Request::Show => put_shorts(s, output, table),
         Request::Accept => put_done(s, output, curve::accept(table)),
-        Request::Degenerated => bench_tables::degenerated(s, output, table),
+        Request::Degenerated => groat_tables::degenerated(s, output, table),
         Request::Hex => put_bytes(s, output, tag),
-        Request::Count => bench_tags::count(s, output, tag),
-        Request::Part => bench_tags::part(s, output, tag),
-        Request::Para => bench_tags::read_para(s, output, tag),
-        Request::Curve => bench_floats::put_unified(s, output, para::read_parametric_curve(tag)),
+        Request::Count => groat_tags::count(s, output, tag),
+        Request::Part => groat_tags::part(s, output, tag),
+        Request::Para => groat_tags::read_para(s, output, tag),
+        Request::Curve => groat_floats::put_unified(s, output, para::read_parametric_curve(tag)),
         Request::Plot => plot(s, output, table),
         _ => put_help(s, output),
     }
