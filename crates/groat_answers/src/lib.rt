@@ -1,5 +1,5 @@
 // How answers are written: `ok`, `refused N`, and lists of numbers, floats and bytes.
-use groat_io::Streams;
+use groat_io::State;
 use groat_io::put;
 use groat_io::put_byte;
 use groat_io::put_decimal;
@@ -7,22 +7,6 @@ use groat_io::put_hex;
 use table::Done;
 use table::Refusal;
 use table::number;
-
-// A float of a bit pattern. Rattle makes no float of a NaN's pattern, so one NaN stands for all of them.
-pub fn single(pattern: u64) -> f32 {
-    let bits = (pattern % 0x1_0000_0000) as u32;
-    if bits % 0x8000_0000 > 0x7f80_0000 {
-        return 0.0 / 0.0;
-    }
-    f32::from_bits(bits)
-}
-
-pub fn double(pattern: u64) -> f64 {
-    if pattern % 0x8000_0000_0000_0000 > 0x7ff0_0000_0000_0000 {
-        return 0.0 / 0.0;
-    }
-    f64::from_bits(pattern)
-}
 
 fn wide(x: u32) -> u64 {
     x as u64
@@ -32,11 +16,11 @@ fn wide_short(x: u16) -> u64 {
     x as u64
 }
 
-pub fn put_short(s: Streams, output: &mut [u8; 65535], x: u16) -> Streams {
+pub fn put_short(s: State, output: &mut [u8; 65535], x: u16) -> State {
     put_decimal(s, output, wide_short(x))
 }
 
-pub fn put_float(s: Streams, output: &mut [u8; 65535], x: f32) -> Streams {
+pub fn put_float(s: State, output: &mut [u8; 65535], x: f32) -> State {
     if x != x {
         return put(s, output, b"nan");
     }
@@ -44,22 +28,22 @@ pub fn put_float(s: Streams, output: &mut [u8; 65535], x: f32) -> Streams {
 }
 
 // The comma before every item but the first.
-pub fn put_comma(s: Streams, output: &mut [u8; 65535], i: usize) -> Streams {
-    if i == 0 {
+pub fn put_comma(s: State, output: &mut [u8; 65535], place: usize) -> State {
+    if place == 0 {
         return s;
     }
     put_byte(s, output, b',')
 }
 
 // Where a list has no items.
-fn put_none(s: Streams, output: &mut [u8; 65535], n: usize) -> Streams {
+fn put_none(s: State, output: &mut [u8; 65535], n: usize) -> State {
     if n > 0 {
         return s;
     }
     put_byte(s, output, b'-')
 }
 
-pub fn put_shorts(s: Streams, output: &mut [u8; 65535], list: &[u16]) -> Streams {
+pub fn put_shorts(s: State, output: &mut [u8; 65535], list: &[u16]) -> State {
     let mut here = put_none(s, output, list.len());
     let mut i = 0;
     while i < list.len() {
@@ -70,7 +54,7 @@ pub fn put_shorts(s: Streams, output: &mut [u8; 65535], list: &[u16]) -> Streams
     here
 }
 
-pub fn put_floats(s: Streams, output: &mut [u8; 65535], list: &[f32]) -> Streams {
+pub fn put_floats(s: State, output: &mut [u8; 65535], list: &[f32]) -> State {
     let mut here = put_none(s, output, list.len());
     let mut i = 0;
     while i < list.len() {
@@ -85,7 +69,7 @@ fn wide_byte(x: u8) -> u64 {
     x as u64
 }
 
-pub fn put_bytes(s: Streams, output: &mut [u8; 65535], bytes: &[u8]) -> Streams {
+pub fn put_bytes(s: State, output: &mut [u8; 65535], bytes: &[u8]) -> State {
     let mut here = put_none(s, output, bytes.len());
     let mut i = 0;
     while i < bytes.len() {
@@ -95,27 +79,27 @@ pub fn put_bytes(s: Streams, output: &mut [u8; 65535], bytes: &[u8]) -> Streams 
     here
 }
 
-pub fn put_ok(s: Streams, output: &mut [u8; 65535], n: usize) -> Streams {
+pub fn put_ok(s: State, output: &mut [u8; 65535], n: usize) -> State {
     let here = put(s, output, b"ok ");
     put_decimal(here, output, n as u64)
 }
 
-pub fn put_refused(s: Streams, output: &mut [u8; 65535], why: Refusal) -> Streams {
+pub fn put_refused(s: State, output: &mut [u8; 65535], why: Refusal) -> State {
     put_refused_number(s, output, number(why))
 }
 
-pub fn put_refused_number(s: Streams, output: &mut [u8; 65535], why: u32) -> Streams {
+pub fn put_refused_number(s: State, output: &mut [u8; 65535], why: u32) -> State {
     let here = put(s, output, b"refused ");
     put_decimal(here, output, wide(why))
 }
 
 // An item of a list that is refused.
-pub fn put_refused_item(s: Streams, output: &mut [u8; 65535], why: Refusal) -> Streams {
+pub fn put_refused_item(s: State, output: &mut [u8; 65535], why: Refusal) -> State {
     let here = put_byte(s, output, b'!');
     put_decimal(here, output, wide(number(why)))
 }
 
-pub fn put_done(s: Streams, output: &mut [u8; 65535], done: Done) -> Streams {
+pub fn put_done(s: State, output: &mut [u8; 65535], done: Done) -> State {
     match done {
         Done::Yes => put(s, output, b"ok"),
         Done::Refused(why) => put_refused(s, output, why),
@@ -123,9 +107,16 @@ pub fn put_done(s: Streams, output: &mut [u8; 65535], done: Done) -> Streams {
 }
 
 // The same where the answer says how many there are.
-pub fn put_done_of(s: Streams, output: &mut [u8; 65535], done: Done, n: usize) -> Streams {
+pub fn put_done_of(s: State, output: &mut [u8; 65535], done: Done, n: usize) -> State {
     match done {
         Done::Yes => put_ok(s, output, n),
         Done::Refused(why) => put_refused(s, output, why),
     }
+}
+
+pub fn put_yes_no(s: State, output: &mut [u8; 65535], answer: bool) -> State {
+    if answer {
+        return put(s, output, b"yes");
+    }
+    put(s, output, b"no")
 }

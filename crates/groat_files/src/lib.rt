@@ -1,5 +1,5 @@
 // Files for the bench program: bytes from a file, and a file that is written beside its place and renamed, so that no half file is left.
-// A path is a word in a buffer of 4,096 bytes with its whole length: one that is longer fills the buffer, which is no path, and is refused.
+// A path of 4,096 bytes may go on past its buffer, and is refused.
 
 pub enum Loaded {
     Bytes(usize),
@@ -11,14 +11,6 @@ pub enum Loaded {
 pub struct Draft {
     pub fd: i32,
     name: usize,
-}
-
-// The first n bytes of a word.
-fn text(word: &[u8], n: u64) -> &[u8] {
-    if n < word.len() as u64 {
-        return &word[0..n as usize];
-    }
-    word
 }
 
 // What a read of one byte more says of a file of which n bytes came.
@@ -41,8 +33,8 @@ fn read_all(fd: i32, bytes: &mut [u8; 131200]) -> Loaded {
 }
 
 // The bytes of a file, put into a lent buffer.
-pub fn load(path: &[u8; 4096], n: u64, bytes: &mut [u8; 131200]) -> Loaded {
-    let fd = os::open_read(text(path, n));
+pub fn load(path: &[u8], bytes: &mut [u8; 131200]) -> Loaded {
+    let fd = os::open_read(path);
     if fd < 0 {
         return Loaded::Failed;
     }
@@ -93,13 +85,12 @@ fn make(name: &mut [u8], n: usize) -> i32 {
 }
 
 // Makes a file in the directory of a path, under a name of its own that is put into a lent buffer.
-pub fn begin(path: &[u8; 4096], n: u64, name: &mut [u8; 4096]) -> Draft {
-    if n >= 4096 {
+pub fn begin(path: &[u8], name: &mut [u8; 4096]) -> Draft {
+    if path.len() >= 4096 {
         return Draft { fd: -1, name: 0 };
     }
-    let place = text(path, n);
-    let before = directory(place);
-    write_at(name, 0, place);
+    let before = directory(path);
+    write_at(name, 0, path);
     write_at(name, before, b"groat-XXXXXX");
     let length = std::num::wrapping_add_usize(before, 12);
     Draft {
@@ -127,13 +118,17 @@ fn placed(whole: bool, name: &[u8], path: &[u8]) -> bool {
     false
 }
 
+// The first n bytes of a name.
+fn first(name: &[u8], n: usize) -> &[u8] {
+    if n < name.len() {
+        return &name[0..n];
+    }
+    name
+}
+
 // Ends a draft of which everything was written or not; whether the file is in its place.
-pub fn finish(draft: Draft, written: bool, path: &[u8; 4096], n: u64, name: &[u8; 4096]) -> bool {
+pub fn finish(draft: Draft, written: bool, path: &[u8], name: &[u8; 4096]) -> bool {
     let whole = written && settled(draft.fd);
     let closed = libc::close(draft.fd);
-    placed(
-        whole && closed == 0,
-        text(name, draft.name as u64),
-        text(path, n),
-    )
+    placed(whole && closed == 0, first(name, draft.name), path)
 }

@@ -3,36 +3,30 @@ use groat_answers::put_float;
 use groat_answers::put_floats;
 use groat_answers::put_ok;
 use groat_answers::put_refused;
-use groat_answers::single;
-use groat_io::Streams;
-use groat_io::put;
+use groat_answers::put_yes_no;
+use groat_io::State;
 use groat_io::put_byte;
-use groat_kept::After;
+use groat_kept::at_most;
 use groat_kept::values;
-use groat_lists::Items;
+use groat_kept::with_floats;
 use groat_lists::last_items;
-use groat_lists::last_number;
 use groat_lists::read_items;
-use groat_words::Got;
+use groat_requests::FloatRequest;
 use groat_words::Place;
-use groat_words::put_problem;
+use groat_words::is_fine;
+use groat_words::last_number;
 use parametric::ParametricCurve;
 use parametric::Unified;
+use patterns::float_of;
 use table::Done;
-ghost use Prim.Native.Nat.{_≤_};
 
-// How many of n fit a buffer of 65,537.
-fn at_most(n: usize) -> usize
-    ensures { λ r. ⌜ r ≤ 65537 ⌝ }
-{
-    if n < 65537 {
-        return n;
-    }
-    65537
+// The float of a code, which is a pattern of 32 bits.
+fn single(code: u64) -> f32 {
+    float_of((code % 0x1_0000_0000) as u32)
 }
 
 fn hold(codes: &[u64; 65537], n: usize, floats: &mut [f32; 65537]) {
-    let end = at_most(n);
+    let end = at_most(n, 65537);
     let mut i = 0;
     while i < end {
         floats[i] = single(codes[i]);
@@ -41,30 +35,20 @@ fn hold(codes: &[u64; 65537], n: usize, floats: &mut [f32; 65537]) {
 }
 
 // `floats LIST`.
-pub fn hold_floats(
-    s: Streams,
+fn hold_floats(
+    s: State,
     input: &mut [u8; 65535],
     output: &mut [u8; 65535],
-    codes: &mut [u64; 65537],
     floats: &mut [f32; 65537],
-    before: usize,
-) -> After {
-    let read = last_items(s, input, output, Place::Single, codes);
+) -> State {
+    let mut codes = [0u64; 65537];
+    let read = last_items(s, input, Place::Single, &mut codes);
     let here = read.s;
-    let items = read.items;
-    match items {
-        Items::Held(n) => {
-            hold(codes, n, floats);
-            After {
-                s: put_ok(here, output, n),
-                n,
-            }
-        }
-        Items::Wrong(problem) => After {
-            s: put_problem(here, output, problem),
-            n: before,
-        },
+    if !is_fine(here) {
+        return here;
     }
+    hold(&codes, read.n, floats);
+    with_floats(put_ok(here, output, read.n), read.n)
 }
 
 fn passed_through(out: &mut [f32], n: usize) -> Done {
@@ -75,12 +59,12 @@ fn passed_through(out: &mut [f32], n: usize) -> Done {
 }
 
 fn put_passed(
-    s: Streams,
+    s: State,
     output: &mut [u8; 65535],
     done: Done,
     out: &[f32; 65537],
     n: usize,
-) -> Streams {
+) -> State {
     match done {
         Done::Yes => put_floats(s, output, values(out, n)),
         Done::Refused(why) => put_refused(s, output, why),
@@ -88,31 +72,24 @@ fn put_passed(
 }
 
 // `passthrough N`. Every length from 65,537 on is refused alike.
-pub fn passthrough(
-    s: Streams,
-    input: &mut [u8; 65535],
-    output: &mut [u8; 65535],
-    out: &mut [f32; 65537],
-) -> Streams {
-    let read = last_number(s, input, output, Place::Any);
+fn passthrough(s: State, input: &mut [u8; 65535], output: &mut [u8; 65535]) -> State {
+    let read = last_number(s, input, Place::Any);
     let here = read.s;
-    let got = read.got;
-    match got {
-        Got::Value(value) => {
-            let n = value as usize;
-            let done = passed_through(out, n);
-            put_passed(here, output, done, out, n)
-        }
-        Got::Wrong(problem) => put_problem(here, output, problem),
+    if !is_fine(here) {
+        return here;
     }
+    let mut out = [0.0f32; 65537];
+    let n = read.value as usize;
+    let done = passed_through(&mut out, n);
+    put_passed(here, output, done, &out, n)
 }
 
-fn put_parted(s: Streams, output: &mut [u8; 65535], x: f32) -> Streams {
+fn put_parted(s: State, output: &mut [u8; 65535], x: f32) -> State {
     let here = put_byte(s, output, b',');
     put_float(here, output, x)
 }
 
-fn put_curve(s: Streams, output: &mut [u8; 65535], curve: ParametricCurve) -> Streams {
+fn put_curve(s: State, output: &mut [u8; 65535], curve: ParametricCurve) -> State {
     let mut here = put_float(s, output, curve.g);
     here = put_parted(here, output, curve.a);
     here = put_parted(here, output, curve.b);
@@ -123,79 +100,67 @@ fn put_curve(s: Streams, output: &mut [u8; 65535], curve: ParametricCurve) -> St
 }
 
 // The seven floats of a curve.
-pub fn put_unified(s: Streams, output: &mut [u8; 65535], answer: Unified) -> Streams {
+pub fn put_unified(s: State, output: &mut [u8; 65535], answer: Unified) -> State {
     match answer {
         Unified::Curve(curve) => put_curve(s, output, curve),
         Unified::Refused(why) => put_refused(s, output, why),
     }
 }
 
+fn unified(codes: &[u64; 65537], n: usize) -> Unified {
+    let mut parameters = [0.0f32; 65537];
+    hold(codes, n, &mut parameters);
+    unified_of(&parameters, n)
+}
+
+fn unified_of(parameters: &[f32; 65537], n: usize) -> Unified {
+    ParametricCurve::new(values(parameters, n))
+}
+
 // `param LIST`.
-pub fn param(
-    s: Streams,
-    input: &mut [u8; 65535],
-    output: &mut [u8; 65535],
-    codes: &mut [u64; 65537],
-    first: &mut [f32; 65537],
-) -> Streams {
-    let read = last_items(s, input, output, Place::Single, codes);
+fn param(s: State, input: &mut [u8; 65535], output: &mut [u8; 65535]) -> State {
+    let mut codes = [0u64; 65537];
+    let read = last_items(s, input, Place::Single, &mut codes);
     let here = read.s;
-    let items = read.items;
-    match items {
-        Items::Held(n) => {
-            hold(codes, n, first);
-            put_unified(here, output, ParametricCurve::new(values(first, n)))
-        }
-        Items::Wrong(problem) => put_problem(here, output, problem),
+    if !is_fine(here) {
+        return here;
     }
+    put_unified(here, output, unified(&codes, read.n))
 }
 
-fn put_yes_no(s: Streams, output: &mut [u8; 65535], answer: bool) -> Streams {
-    if answer {
-        return put(s, output, b"yes");
-    }
-    put(s, output, b"no")
-}
-
-// The second list of a comparison, the first of which has n floats.
-fn compare_with(
-    s: Streams,
-    input: &mut [u8; 65535],
-    output: &mut [u8; 65535],
-    codes: &mut [u64; 65537],
-    first: &[f32],
-    second: &mut [f32; 65537],
-) -> Streams {
-    let read = last_items(s, input, output, Place::Single, codes);
-    let here = read.s;
-    let items = read.items;
-    match items {
-        Items::Held(n) => {
-            hold(codes, n, second);
-            let close = parametric::compare_parametric(first, values(second, n));
-            put_yes_no(here, output, close)
-        }
-        Items::Wrong(problem) => put_problem(here, output, problem),
-    }
+fn close(first: &[f32; 65537], n: usize, second: &[f32; 65537], m: usize) -> bool {
+    parametric::compare_parametric(values(first, n), values(second, m))
 }
 
 // `compare LIST LIST`.
-pub fn compare(
-    s: Streams,
+fn compare(s: State, input: &mut [u8; 65535], output: &mut [u8; 65535]) -> State {
+    let mut codes = [0u64; 65537];
+    let mut first = [0.0f32; 65537];
+    let mut second = [0.0f32; 65537];
+    let one = read_items(s, input, Place::Single, &mut codes);
+    hold(&codes, one.n, &mut first);
+    let after = one.s;
+    let other = last_items(after, input, Place::Single, &mut codes);
+    let here = other.s;
+    if !is_fine(here) {
+        return here;
+    }
+    hold(&codes, other.n, &mut second);
+    put_yes_no(here, output, close(&first, one.n, &second, other.n))
+}
+
+// Answers a request.
+pub fn answer(
+    request: FloatRequest,
+    s: State,
     input: &mut [u8; 65535],
     output: &mut [u8; 65535],
-    codes: &mut [u64; 65537],
-    first: &mut [f32; 65537],
-    second: &mut [f32; 65537],
-) -> Streams {
-    let read = read_items(s, input, output, Place::Single, codes);
-    let here = read.s;
-    let items = read.items;
-    match items {
-        Items::Held(n) => {
-            hold(codes, n, first);
-            compare_with(here, input, output, codes, values(first, n), second)
-        }
-        Items::Wrong(problem) => put_problem(here, output, problem),
+    floats: &mut [f32; 65537],
+) -> State {
+    match request {
+        FloatRequest::Hold => hold_floats(s, input, output, floats),
+        FloatRequest::Passthrough => passthrough(s, input, output),
+        FloatRequest::Parametric => param(s, input, output),
+        FloatRequest::Compare => compare(s, input, output),
     }
 }

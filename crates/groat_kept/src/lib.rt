@@ -1,18 +1,8 @@
-// What the bench program keeps: a table, a list of floats and the bytes of a tag. Each stands in a buffer of its own, and here is how many
-// of the buffer's first places it has.
-use groat_io::Streams;
-
-pub struct Kept {
-    pub table: usize,
-    pub floats: usize,
-    pub tag: usize,
-}
-
-// After a request that may change one of them: how many places that one has now.
-pub struct After {
-    pub s: Streams,
-    pub n: usize,
-}
+// What the bench program keeps: a table, a list of floats and the bytes of a tag. Each stands in a buffer of its own, and the state says how many of
+// the buffer's first places it has.
+use groat_io::State;
+use table::Done;
+ghost use Prim.Native.Nat.{_≤_};
 
 // The first n entries.
 pub fn entries(table: &[u16], n: usize) -> &[u16] {
@@ -36,4 +26,51 @@ pub fn bytes(tag: &[u8], n: usize) -> &[u8] {
         return &tag[0..n];
     }
     tag
+}
+
+// How many of n places a buffer of `most` has.
+pub fn at_most(n: usize, most: usize) -> usize
+    ensures { λ r. ⌜ r ≤ most ⌝ }
+{
+    if n < most {
+        return n;
+    }
+    most
+}
+
+// The kept table has n entries.
+pub fn with_table(s: State, n: usize) -> State {
+    let mut after = s;
+    after.table = n;
+    after
+}
+
+// The kept list has n floats.
+pub fn with_floats(s: State, n: usize) -> State {
+    let mut after = s;
+    after.floats = n;
+    after
+}
+
+// The kept tag has n bytes.
+pub fn with_tag(s: State, n: usize) -> State {
+    let mut after = s;
+    after.tag = n;
+    after
+}
+
+// The kept table after a call that was to give it n entries.
+pub fn table_after(s: State, done: Done, n: usize) -> State {
+    match done {
+        Done::Yes => with_table(s, n),
+        Done::Refused(_) => s,
+    }
+}
+
+// The kept tag after a call that was to give it n bytes.
+pub fn tag_after(s: State, done: Done, n: usize) -> State {
+    match done {
+        Done::Yes => with_tag(s, n),
+        Done::Refused(_) => s,
+    }
 }

@@ -1,25 +1,23 @@
 // Bytes, as pairs of hexadecimal digits, or `-` for none.
-use groat_io::Streams;
+use crate::lists::MINUS;
+use groat_io::State;
 use groat_io::advance;
-use groat_words::Problem;
-use groat_words::ends_line;
+use groat_words::BAD_NUMBER;
+use groat_words::TOO_MANY_BYTES;
 use groat_words::ends_word;
 use groat_words::hex_value;
-use groat_words::skip_spaces;
+use groat_words::next_word;
+use groat_words::no_more_words;
+use groat_words::wrong;
 
-// Bytes that were read: how many there are in the lent buffer, or what is wrong.
-pub enum Taken {
-    Bytes(usize),
-    Wrong(Problem),
-}
-
+// Bytes that were read: how many there are in the lent buffer.
 pub struct ReadBytes {
-    pub s: Streams,
-    pub taken: Taken,
+    pub s: State,
+    pub n: usize,
 }
 
 struct Digits {
-    s: Streams,
+    s: State,
     n: u64,
 }
 
@@ -32,75 +30,51 @@ fn keep_digit(bytes: &mut [u8; 131200], n: u64, digit: u64) {
     }
 }
 
-fn read_digits(
-    s: Streams,
-    input: &mut [u8; 65535],
-    output: &[u8; 65535],
-    bytes: &mut [u8; 131200],
-) -> Digits {
+fn read_digits(s: State, input: &mut [u8; 65535], bytes: &mut [u8; 131200]) -> Digits {
     let mut here = s;
     let mut n: u64 = 0;
     while n < u64::MAX && hex_value(here.now) < 16 {
         keep_digit(bytes, n, hex_value(here.now));
-        here = advance(here, input, output);
+        here = advance(here, input);
         n += 1;
     }
     Digits { s: here, n }
 }
 
-fn counted(digits: u64, now: u16) -> Taken {
+// After so many digits.
+fn counted(s: State, digits: u64) -> State {
     if digits > 2 * 131200 {
-        return Taken::Wrong(Problem::TooManyBytes);
+        return wrong(s, TOO_MANY_BYTES);
     }
-    if !ends_word(now) || digits % 2 == 1 {
-        return Taken::Wrong(Problem::BadNumber);
+    if !ends_word(s.now) || digits % 2 == 1 {
+        return wrong(s, BAD_NUMBER);
     }
-    Taken::Bytes((digits / 2) as usize)
+    s
 }
 
-fn read_pairs(
-    s: Streams,
-    input: &mut [u8; 65535],
-    output: &[u8; 65535],
-    bytes: &mut [u8; 131200],
-) -> ReadBytes {
-    let digits = read_digits(s, input, output, bytes);
+// The next word of the line as bytes, which are put into a lent buffer. A minus sign has no digits after it.
+fn read_bytes(s: State, input: &mut [u8; 65535], bytes: &mut [u8; 131200]) -> Digits {
+    let start = next_word(s, input);
+    if start.now == MINUS {
+        return Digits {
+            s: counted(advance(start, input), 0),
+            n: 0,
+        };
+    }
+    let digits = read_digits(start, input, bytes);
     let after = digits.s;
-    ReadBytes {
-        s: after,
-        taken: counted(digits.n, after.now),
+    Digits {
+        s: counted(after, digits.n),
+        n: digits.n,
     }
 }
 
-fn none(s: Streams) -> ReadBytes {
-    if ends_word(s.now) {
-        return ReadBytes {
-            s,
-            taken: Taken::Bytes(0),
-        };
-    }
+// The last word of the line as bytes.
+pub fn last_bytes(s: State, input: &mut [u8; 65535], bytes: &mut [u8; 131200]) -> ReadBytes {
+    let read = read_bytes(s, input, bytes);
+    let after = read.s;
     ReadBytes {
-        s,
-        taken: Taken::Wrong(Problem::BadNumber),
+        s: no_more_words(after, input),
+        n: (read.n / 2) as usize,
     }
-}
-
-// The next word of the line as bytes, which are put into a lent buffer.
-pub fn read_bytes(
-    s: Streams,
-    input: &mut [u8; 65535],
-    output: &[u8; 65535],
-    bytes: &mut [u8; 131200],
-) -> ReadBytes {
-    let start = skip_spaces(s, input, output);
-    if ends_line(start.now) {
-        return ReadBytes {
-            s: start,
-            taken: Taken::Wrong(Problem::TooFewWords),
-        };
-    }
-    if start.now == 45 {
-        return none(advance(start, input, output));
-    }
-    read_pairs(start, input, output, bytes)
 }

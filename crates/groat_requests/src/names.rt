@@ -1,171 +1,190 @@
-// The names of the requests.
-use groat_words::named;
+// The names of the requests. Each group's names stand in the order of its cases.
+use groat_words::place_among;
 
 pub enum Request {
-    Table,
-    Show,
-    Start,
-    Accept,
-    Nudge,
-    Lookup,
-    Least,
-    Inverse,
-    Invert,
-    Gamma,
-    Linear,
-    Floats,
-    Float,
-    Passthrough,
-    Fixed8,
-    Raw,
-    Param,
-    Compare,
-    Monotonic,
-    Degenerated,
-    House,
-    UseHouse,
-    Bake,
-    Tag,
-    Hex,
-    Load,
-    Save,
-    Count,
-    Read,
-    Part,
-    Write,
-    Para,
-    Curve,
-    WritePara,
-    Plot,
-    Svg,
-    Help,
+    Plain(PlainRequest),
+    Table(TableRequest),
+    Floats(FloatRequest),
+    Tag(TagRequest),
+    Ask(Question),
+    DrawSvg,
     Unknown,
 }
 
-// The request that a word of n bytes names.
-pub fn request_named(word: &[u8; 4096], n: u64) -> Request {
-    if named(word, n, b"table") {
-        return Request::Table;
-    }
-    if named(word, n, b"show") {
-        return Request::Show;
-    }
-    if named(word, n, b"start") {
-        return Request::Start;
-    }
-    if named(word, n, b"accept") {
-        return Request::Accept;
-    }
-    if named(word, n, b"nudge") {
-        return Request::Nudge;
-    }
-    if named(word, n, b"lookup") {
-        return Request::Lookup;
-    }
-    if named(word, n, b"least") {
-        return Request::Least;
-    }
-    if named(word, n, b"inverse") {
-        return Request::Inverse;
-    }
-    if named(word, n, b"invert") {
-        return Request::Invert;
-    }
-    if named(word, n, b"gamma") {
-        return Request::Gamma;
-    }
-    float_request_named(word, n)
+// Requests of one word.
+pub enum PlainRequest {
+    Table(PlainTableRequest),
+    Tag(PlainTagRequest),
+    // the curv tag's entries become the table
+    ReadCurv,
+    // the table's curv tag becomes the tag
+    WriteCurv,
+    Plot,
+    Help,
 }
 
-fn float_request_named(word: &[u8; 4096], n: u64) -> Request {
-    if named(word, n, b"dlookup") {
-        return Request::Linear;
-    }
-    if named(word, n, b"floats") {
-        return Request::Floats;
-    }
-    if named(word, n, b"flookup") {
-        return Request::Float;
-    }
-    if named(word, n, b"passthrough") {
-        return Request::Passthrough;
-    }
-    if named(word, n, b"fixed8") {
-        return Request::Fixed8;
-    }
-    if named(word, n, b"raw") {
-        return Request::Raw;
-    }
-    if named(word, n, b"param") {
-        return Request::Param;
-    }
-    if named(word, n, b"compare") {
-        return Request::Compare;
-    }
-    curve_request_named(word, n)
+pub enum PlainTableRequest {
+    Show,
+    Accept,
+    Degenerated,
+    UseHouse,
+    Bake,
 }
 
-fn curve_request_named(word: &[u8; 4096], n: u64) -> Request {
-    if named(word, n, b"monotonic") {
-        return Request::Monotonic;
-    }
-    if named(word, n, b"degenerated") {
-        return Request::Degenerated;
-    }
-    if named(word, n, b"house") {
-        return Request::House;
-    }
-    if named(word, n, b"usehouse") {
-        return Request::UseHouse;
-    }
-    if named(word, n, b"bake") {
-        return Request::Bake;
-    }
-    if named(word, n, b"plot") {
-        return Request::Plot;
-    }
-    if named(word, n, b"svg") {
-        return Request::Svg;
-    }
-    if named(word, n, b"help") {
-        return Request::Help;
-    }
-    tag_request_named(word, n)
+pub enum PlainTagRequest {
+    Hex,
+    Count,
+    Part,
+    ReadPara,
+    ReadCurve,
 }
 
-fn tag_request_named(word: &[u8; 4096], n: u64) -> Request {
-    if named(word, n, b"tag") {
-        return Request::Tag;
+// Requests on the table that have words of their own.
+pub enum TableRequest {
+    Hold,
+    Start,
+    Nudge,
+    Invert,
+    Monotonic,
+}
+
+// Requests on floats.
+pub enum FloatRequest {
+    Hold,
+    Passthrough,
+    Parametric,
+    Compare,
+}
+
+// Requests on the tag that have words of their own.
+pub enum TagRequest {
+    Hold,
+    Load,
+    Save,
+    WritePara,
+}
+
+// What a list of questions asks of each item, by what is answered: the library's call.
+pub enum Question {
+    Whole(WholeQuestion),
+    Float(FloatQuestion),
+}
+
+// Answered by whole numbers.
+pub enum WholeQuestion {
+    Lookup,
+    LeastInput,
+    Inverse,
+    Gamma,
+    HouseEntry,
+}
+
+// Answered by f32s.
+pub enum FloatQuestion {
+    LookupF64,
+    LookupF32,
+    Fixed8,
+    Raw16,
+}
+
+fn plain_table(request: PlainTableRequest) -> Request {
+    Request::Plain(PlainRequest::Table(request))
+}
+
+fn plain_tag(request: PlainTagRequest) -> Request {
+    Request::Plain(PlainRequest::Tag(request))
+}
+
+fn whole(question: WholeQuestion) -> Request {
+    Request::Ask(Question::Whole(question))
+}
+
+fn float(question: FloatQuestion) -> Request {
+    Request::Ask(Question::Float(question))
+}
+
+// The request that a word names.
+pub fn request_named(word: &[u8]) -> Request {
+    match place_among(word, b"show accept degenerated usehouse bake ") {
+        0 => plain_table(PlainTableRequest::Show),
+        1 => plain_table(PlainTableRequest::Accept),
+        2 => plain_table(PlainTableRequest::Degenerated),
+        3 => plain_table(PlainTableRequest::UseHouse),
+        4 => plain_table(PlainTableRequest::Bake),
+        _ => plain_tag_request_named(word),
     }
-    if named(word, n, b"hex") {
-        return Request::Hex;
+}
+
+fn plain_tag_request_named(word: &[u8]) -> Request {
+    match place_among(word, b"hex count part para curve ") {
+        0 => plain_tag(PlainTagRequest::Hex),
+        1 => plain_tag(PlainTagRequest::Count),
+        2 => plain_tag(PlainTagRequest::Part),
+        3 => plain_tag(PlainTagRequest::ReadPara),
+        4 => plain_tag(PlainTagRequest::ReadCurve),
+        _ => table_request_named(word),
     }
-    if named(word, n, b"load") {
-        return Request::Load;
+}
+
+fn table_request_named(word: &[u8]) -> Request {
+    match place_among(word, b"table start nudge invert monotonic ") {
+        0 => Request::Table(TableRequest::Hold),
+        1 => Request::Table(TableRequest::Start),
+        2 => Request::Table(TableRequest::Nudge),
+        3 => Request::Table(TableRequest::Invert),
+        4 => Request::Table(TableRequest::Monotonic),
+        _ => float_request_named(word),
     }
-    if named(word, n, b"save") {
-        return Request::Save;
+}
+
+fn float_request_named(word: &[u8]) -> Request {
+    match place_among(word, b"floats passthrough param compare ") {
+        0 => Request::Floats(FloatRequest::Hold),
+        1 => Request::Floats(FloatRequest::Passthrough),
+        2 => Request::Floats(FloatRequest::Parametric),
+        3 => Request::Floats(FloatRequest::Compare),
+        _ => tag_request_named(word),
     }
-    if named(word, n, b"count") {
-        return Request::Count;
+}
+
+fn tag_request_named(word: &[u8]) -> Request {
+    match place_among(word, b"tag load save writepara ") {
+        0 => Request::Tag(TagRequest::Hold),
+        1 => Request::Tag(TagRequest::Load),
+        2 => Request::Tag(TagRequest::Save),
+        3 => Request::Tag(TagRequest::WritePara),
+        _ => whole_question_named(word),
     }
-    if named(word, n, b"read") {
-        return Request::Read;
+}
+
+fn whole_question_named(word: &[u8]) -> Request {
+    match place_among(word, b"lookup least inverse gamma house ") {
+        0 => whole(WholeQuestion::Lookup),
+        1 => whole(WholeQuestion::LeastInput),
+        2 => whole(WholeQuestion::Inverse),
+        3 => whole(WholeQuestion::Gamma),
+        4 => whole(WholeQuestion::HouseEntry),
+        _ => float_question_named(word),
     }
-    if named(word, n, b"part") {
-        return Request::Part;
+}
+
+fn float_question_named(word: &[u8]) -> Request {
+    match place_among(word, b"dlookup flookup fixed8 raw ") {
+        0 => float(FloatQuestion::LookupF64),
+        1 => float(FloatQuestion::LookupF32),
+        2 => float(FloatQuestion::Fixed8),
+        3 => float(FloatQuestion::Raw16),
+        _ => other_request_named(word),
     }
-    if named(word, n, b"write") {
-        return Request::Write;
+}
+
+fn other_request_named(word: &[u8]) -> Request {
+    match place_among(word, b"read write plot help svg ") {
+        0 => Request::Plain(PlainRequest::ReadCurv),
+        1 => Request::Plain(PlainRequest::WriteCurv),
+        2 => Request::Plain(PlainRequest::Plot),
+        3 => Request::Plain(PlainRequest::Help),
+        4 => Request::DrawSvg,
+        _ => Request::Unknown,
     }
-    if named(word, n, b"para") {
-        return Request::Para;
-    }
-    if named(word, n, b"curve") {
-        return Request::Curve;
-    }
-    if named(word, n, b"writepara") {
-        return Request::WritePara;
-    }
-    Request::Unknown
 }

@@ -4,42 +4,35 @@ use groat_answers::put_done_of;
 use groat_answers::put_ok;
 use groat_answers::put_refused;
 use groat_answers::put_shorts;
-use groat_io::Streams;
-use groat_io::put;
+use groat_answers::put_yes_no;
+use groat_io::State;
+use groat_io::put_byte;
 use groat_io::put_decimal;
-use groat_kept::After;
+use groat_kept::at_most;
+use groat_kept::bytes;
 use groat_kept::entries;
-use groat_lists::Items;
-use groat_lists::Text;
+use groat_kept::table_after;
+use groat_kept::with_table;
 use groat_lists::last_items;
-use groat_lists::last_number;
-use groat_lists::last_word;
-use groat_words::Got;
+use groat_requests::PlainTableRequest;
+use groat_requests::TableRequest;
+use groat_words::NO_SUCH_DIRECTION;
 use groat_words::Place;
-use groat_words::Problem;
-use groat_words::named;
-use groat_words::put_problem;
+use groat_words::is_fine;
+use groat_words::last_number;
+use groat_words::last_word;
+use groat_words::place_among;
 use groat_words::read_number;
 use groat_words::short;
+use groat_words::wrong;
 use matan::Degenerated;
 use matan::Direction;
 use matan::Monotonic;
 use table::Density;
 use table::Done;
-ghost use Prim.Native.Nat.{_≤_};
-
-// How many of n fit a buffer of 65,537.
-fn at_most(n: usize) -> usize
-    ensures { λ r. ⌜ r ≤ 65537 ⌝ }
-{
-    if n < 65537 {
-        return n;
-    }
-    65537
-}
 
 fn hold(codes: &[u64; 65537], n: usize, table: &mut [u16; 65537]) {
-    let end = at_most(n);
+    let end = at_most(n, 65537);
     let mut i = 0;
     while i < end {
         table[i] = short(codes[i]);
@@ -48,7 +41,7 @@ fn hold(codes: &[u64; 65537], n: usize, table: &mut [u16; 65537]) {
 }
 
 fn copy(from: &[u16; 65537], n: usize, table: &mut [u16; 65537]) {
-    let end = at_most(n);
+    let end = at_most(n, 65537);
     let mut i = 0;
     while i < end {
         table[i] = from[i];
@@ -57,38 +50,20 @@ fn copy(from: &[u16; 65537], n: usize, table: &mut [u16; 65537]) {
 }
 
 // `table LIST`.
-pub fn hold_table(
-    s: Streams,
+fn hold_table(
+    s: State,
     input: &mut [u8; 65535],
     output: &mut [u8; 65535],
-    codes: &mut [u64; 65537],
     table: &mut [u16; 65537],
-    before: usize,
-) -> After {
-    let read = last_items(s, input, output, Place::Short, codes);
+) -> State {
+    let mut codes = [0u64; 65537];
+    let read = last_items(s, input, Place::Short, &mut codes);
     let here = read.s;
-    let items = read.items;
-    match items {
-        Items::Held(n) => {
-            hold(codes, n, table);
-            After {
-                s: put_ok(here, output, n),
-                n,
-            }
-        }
-        Items::Wrong(problem) => After {
-            s: put_problem(here, output, problem),
-            n: before,
-        },
+    if !is_fine(here) {
+        return here;
     }
-}
-
-// How many entries the table has after a call that was to give it n.
-fn length_after(done: Done, n: usize, before: usize) -> usize {
-    match done {
-        Done::Yes => n,
-        Done::Refused(_) => before,
-    }
+    hold(&codes, read.n, table);
+    with_table(put_ok(here, output, read.n), read.n)
 }
 
 fn start_of(table: &mut [u16], n: usize) -> Done {
@@ -99,74 +74,50 @@ fn start_of(table: &mut [u16], n: usize) -> Done {
 }
 
 // `start N`. Every length from 65,537 on is refused alike.
-pub fn start(
-    s: Streams,
+fn start(
+    s: State,
     input: &mut [u8; 65535],
     output: &mut [u8; 65535],
     table: &mut [u16; 65537],
-    before: usize,
-) -> After {
-    let read = last_number(s, input, output, Place::Any);
+) -> State {
+    let read = last_number(s, input, Place::Any);
     let here = read.s;
-    let got = read.got;
-    match got {
-        Got::Value(value) => {
-            let n = value as usize;
-            let done = start_of(table, n);
-            After {
-                s: put_done_of(here, output, done, n),
-                n: length_after(done, n, before),
-            }
-        }
-        Got::Wrong(problem) => After {
-            s: put_problem(here, output, problem),
-            n: before,
-        },
+    if !is_fine(here) {
+        return here;
     }
+    let n = read.value as usize;
+    let done = start_of(table, n);
+    table_after(put_done_of(here, output, done, n), done, n)
 }
 
-fn nudge_in(table: &mut [u16], n: usize, i: usize, v: u16) -> Done {
+fn nudge_in(table: &mut [u16], n: usize, i: usize, v: Density) -> Done {
     if n < table.len() {
-        return curve::nudge(&mut table[0..n], i, Density(v));
+        return curve::nudge(&mut table[0..n], i, v);
     }
-    curve::nudge(table, i, Density(v))
-}
-
-fn nudge_to(
-    s: Streams,
-    input: &mut [u8; 65535],
-    output: &mut [u8; 65535],
-    table: &mut [u16; 65537],
-    n: usize,
-    i: usize,
-) -> Streams {
-    let read = last_number(s, input, output, Place::Short);
-    let here = read.s;
-    let got = read.got;
-    match got {
-        Got::Value(v) => {
-            let done = nudge_in(table, n, i, short(v));
-            put_done(here, output, done)
-        }
-        Got::Wrong(problem) => put_problem(here, output, problem),
-    }
+    curve::nudge(table, i, v)
 }
 
 // `nudge I V`.
-pub fn nudge(
-    s: Streams,
+fn nudge(
+    s: State,
     input: &mut [u8; 65535],
     output: &mut [u8; 65535],
     table: &mut [u16; 65537],
-    n: usize,
-) -> Streams {
-    let read = read_number(s, input, output, Place::Any);
-    let here = read.s;
-    let got = read.got;
-    match got {
-        Got::Value(i) => nudge_to(here, input, output, table, n, i as usize),
-        Got::Wrong(problem) => put_problem(here, output, problem),
+) -> State {
+    let index = read_number(s, input, Place::Any);
+    let after = index.s;
+    let sample = last_number(after, input, Place::Short);
+    let here = sample.s;
+    if !is_fine(here) {
+        return here;
     }
+    let done = nudge_in(
+        table,
+        here.table,
+        index.value as usize,
+        Density(short(sample.value)),
+    );
+    put_done(here, output, done)
 }
 
 fn inverted(table: &[u16], out: &mut [u16], m: usize) -> Done {
@@ -177,12 +128,12 @@ fn inverted(table: &[u16], out: &mut [u16], m: usize) -> Done {
 }
 
 fn put_inverted(
-    s: Streams,
+    s: State,
     output: &mut [u8; 65535],
     done: Done,
     out: &[u16; 65537],
     m: usize,
-) -> Streams {
+) -> State {
     match done {
         Done::Yes => put_shorts(s, output, entries(out, m)),
         Done::Refused(why) => put_refused(s, output, why),
@@ -190,23 +141,74 @@ fn put_inverted(
 }
 
 // `invert M`. Every length from 65,537 on is refused alike.
-pub fn invert(
-    s: Streams,
+fn invert(s: State, input: &mut [u8; 65535], output: &mut [u8; 65535], table: &[u16]) -> State {
+    let read = last_number(s, input, Place::Any);
+    let here = read.s;
+    if !is_fine(here) {
+        return here;
+    }
+    let mut out = [0u16; 65537];
+    let m = read.value as usize;
+    let done = inverted(table, &mut out, m);
+    put_inverted(here, output, done, &out, m)
+}
+
+fn put_monotonic(s: State, output: &mut [u8; 65535], table: &[u16], direction: Direction) -> State {
+    match matan::is_curve_monotonic(table, direction) {
+        Monotonic::Yes(count) => put_verdict(s, output, true, count),
+        Monotonic::No(count) => put_verdict(s, output, false, count),
+        Monotonic::Refused(why) => put_refused(s, output, why),
+    }
+}
+
+// `yes` or `no`, and how many steps there are against it.
+fn put_verdict(s: State, output: &mut [u8; 65535], answer: bool, count: usize) -> State {
+    let said = put_yes_no(s, output, answer);
+    let here = put_byte(said, output, b' ');
+    put_decimal(here, output, count as u64)
+}
+
+// `monotonic rising` and `monotonic falling`.
+fn monotonic(s: State, input: &mut [u8; 65535], output: &mut [u8; 65535], table: &[u16]) -> State {
+    let mut word = [0u8; 4096];
+    let read = last_word(s, input, &mut word);
+    let here = read.s;
+    if !is_fine(here) {
+        return here;
+    }
+    match direction_of(&word, read.n) {
+        0 => put_monotonic(here, output, table, Direction::Rising),
+        1 => put_monotonic(here, output, table, Direction::Falling),
+        _ => wrong(here, NO_SUCH_DIRECTION),
+    }
+}
+
+fn direction_of(word: &[u8; 4096], n: usize) -> usize {
+    place_among(bytes(word, n), b"rising falling ")
+}
+
+// Answers a request with words of its own.
+pub fn answer(
+    request: TableRequest,
+    s: State,
     input: &mut [u8; 65535],
     output: &mut [u8; 65535],
-    table: &[u16],
-    out: &mut [u16; 65537],
-) -> Streams {
-    let read = last_number(s, input, output, Place::Any);
-    let here = read.s;
-    let got = read.got;
-    match got {
-        Got::Value(value) => {
-            let m = value as usize;
-            let done = inverted(table, out, m);
-            put_inverted(here, output, done, out, m)
-        }
-        Got::Wrong(problem) => put_problem(here, output, problem),
+    table: &mut [u16; 65537],
+) -> State {
+    match request {
+        TableRequest::Hold => hold_table(s, input, output, table),
+        TableRequest::Start => start(s, input, output, table),
+        TableRequest::Nudge => nudge(s, input, output, table),
+        TableRequest::Invert => invert(s, input, output, entries(table, s.table)),
+        TableRequest::Monotonic => monotonic(s, input, output, entries(table, s.table)),
+    }
+}
+
+fn degenerated(s: State, output: &mut [u8; 65535], table: &[u16]) -> State {
+    match matan::is_curve_degenerated(table) {
+        Degenerated::Yes => put_yes_no(s, output, true),
+        Degenerated::No => put_yes_no(s, output, false),
+        Degenerated::Refused(why) => put_refused(s, output, why),
     }
 }
 
@@ -217,18 +219,9 @@ fn house_of(table: &mut [u16]) -> Done {
     house::fill(table)
 }
 
-// `usehouse`.
-pub fn use_house(
-    s: Streams,
-    output: &mut [u8; 65535],
-    table: &mut [u16; 65537],
-    before: usize,
-) -> After {
+fn use_house(s: State, output: &mut [u8; 65535], table: &mut [u16; 65537]) -> State {
     let done = house_of(table);
-    After {
-        s: put_done_of(s, output, done, 1024),
-        n: length_after(done, 1024, before),
-    }
+    table_after(put_done_of(s, output, done, 1024), done, 1024)
 }
 
 fn baked(table: &[u16], out: &mut [u16]) -> Done {
@@ -238,85 +231,33 @@ fn baked(table: &[u16], out: &mut [u16]) -> Done {
     lookup::bake(table, out)
 }
 
-fn copy_done(done: Done, from: &[u16; 65537], n: usize, table: &mut [u16; 65537]) {
+fn copy_done(done: Done, from: &[u16; 65537], table: &mut [u16; 65537]) {
     match done {
-        Done::Yes => copy(from, n, table),
+        Done::Yes => copy(from, 65536, table),
         Done::Refused(_) => (),
     }
 }
 
-// `bake`. The table is read all the while, so its answers are filled into another buffer first.
-pub fn bake(
-    s: Streams,
+// The table is read all the while, so its answers are filled into another buffer first.
+fn bake(s: State, output: &mut [u8; 65535], table: &mut [u16; 65537]) -> State {
+    let mut out = [0u16; 65537];
+    let done = baked(entries(table, s.table), &mut out);
+    copy_done(done, &out, table);
+    table_after(put_done_of(s, output, done, 65536), done, 65536)
+}
+
+// Answers a request of one word.
+pub fn answer_plain(
+    request: PlainTableRequest,
+    s: State,
     output: &mut [u8; 65535],
     table: &mut [u16; 65537],
-    before: usize,
-    out: &mut [u16; 65537],
-) -> After {
-    let done = baked(entries(table, before), out);
-    copy_done(done, out, 65536, table);
-    After {
-        s: put_done_of(s, output, done, 65536),
-        n: length_after(done, 65536, before),
-    }
-}
-
-fn put_verdict(s: Streams, output: &mut [u8; 65535], answer: &[u8], count: usize) -> Streams {
-    let here = put(s, output, answer);
-    put_decimal(here, output, count as u64)
-}
-
-fn put_monotonic(
-    s: Streams,
-    output: &mut [u8; 65535],
-    table: &[u16],
-    direction: Direction,
-) -> Streams {
-    match matan::is_curve_monotonic(table, direction) {
-        Monotonic::Yes(count) => put_verdict(s, output, b"yes ", count),
-        Monotonic::No(count) => put_verdict(s, output, b"no ", count),
-        Monotonic::Refused(why) => put_refused(s, output, why),
-    }
-}
-
-fn put_direction(
-    s: Streams,
-    output: &mut [u8; 65535],
-    table: &[u16],
-    word: &[u8; 4096],
-    n: u64,
-) -> Streams {
-    if named(word, n, b"rising") {
-        return put_monotonic(s, output, table, Direction::Rising);
-    }
-    if named(word, n, b"falling") {
-        return put_monotonic(s, output, table, Direction::Falling);
-    }
-    put_problem(s, output, Problem::NoSuchDirection)
-}
-
-// `monotonic rising` and `monotonic falling`.
-pub fn monotonic(
-    s: Streams,
-    input: &mut [u8; 65535],
-    output: &mut [u8; 65535],
-    table: &[u16],
-    word: &mut [u8; 4096],
-) -> Streams {
-    let read = last_word(s, input, output, word);
-    let here = read.s;
-    let text = read.text;
-    match text {
-        Text::Long(n) => put_direction(here, output, table, word, n),
-        Text::Wrong(problem) => put_problem(here, output, problem),
-    }
-}
-
-// `degenerated`.
-pub fn degenerated(s: Streams, output: &mut [u8; 65535], table: &[u16]) -> Streams {
-    match matan::is_curve_degenerated(table) {
-        Degenerated::Yes => put(s, output, b"yes"),
-        Degenerated::No => put(s, output, b"no"),
-        Degenerated::Refused(why) => put_refused(s, output, why),
+) -> State {
+    match request {
+        PlainTableRequest::Show => put_shorts(s, output, entries(table, s.table)),
+        PlainTableRequest::Accept => put_done(s, output, curve::accept(entries(table, s.table))),
+        PlainTableRequest::Degenerated => degenerated(s, output, entries(table, s.table)),
+        PlainTableRequest::UseHouse => use_house(s, output, table),
+        PlainTableRequest::Bake => bake(s, output, table),
     }
 }

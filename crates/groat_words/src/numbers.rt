@@ -1,11 +1,32 @@
 // Numbers: decimal ones of each place, and the bit patterns of floats.
-use crate::problems::Problem;
-use crate::words::ends_line;
+use crate::problems::BAD_NUMBER;
+use crate::problems::wrong;
 use crate::words::ends_word;
-use crate::words::skip_spaces;
-use groat_io::Streams;
+use crate::words::next_word;
+use crate::words::no_more_words;
+use decimal::Natural;
+use decimal::Sum;
+use decimal::grown;
+use decimal::is_digit;
+use decimal::signed;
+use decimal::unsigned;
+use groat_io::State;
 use groat_io::advance;
 ghost use Prim.Native.Nat.{_≤_};
+
+const DIGIT_0: u16 = b'0' as u16;
+
+const DIGIT_9: u16 = b'9' as u16;
+
+const UPPER_A: u16 = b'A' as u16;
+
+const UPPER_F: u16 = b'F' as u16;
+
+const LOWER_A: u16 = b'a' as u16;
+
+const LOWER_F: u16 = b'f' as u16;
+
+const MINUS: u16 = b'-' as u16;
 
 // What a number is for, which says how it is written and how large it may be.
 pub enum Place {
@@ -21,39 +42,20 @@ pub enum Place {
     Double,
 }
 
-// What a number's digits came to. In `A:B` the number B may be one above the largest of its place.
-pub enum Sum {
-    Suits(u64),
-    OneAbove,
-    Wrong,
-}
-
 pub struct ReadSum {
-    pub s: Streams,
+    pub s: State,
     pub sum: Sum,
 }
 
-// A natural number so far, with whether it has a digit: value; or 2^64 where `past` is 1; or more than that where it is 2.
-struct Natural {
-    value: u64,
-    past: u8,
-    some: bool,
-}
-
 struct ReadNatural {
-    s: Streams,
+    s: State,
     n: Natural,
 }
 
-// A number that is a word of its own.
-pub enum Got {
-    Value(u64),
-    Wrong(Problem),
-}
-
+// A number that is a word of its own: its code.
 pub struct ReadNumber {
-    pub s: Streams,
-    pub got: Got,
+    pub s: State,
+    pub value: u64,
 }
 
 // The value of a hexadecimal digit, and 16 for any other byte.
@@ -61,128 +63,38 @@ pub fn hex_value(now: u16) -> u64
     ensures { λ r. ⌜ r ≤ 16 ⌝ }
 {
     match now {
-        48..=57 => (now - 48) as u64,
-        65..=70 => (now - 55) as u64,
-        97..=102 => (now - 87) as u64,
+        DIGIT_0..=DIGIT_9 => (now - DIGIT_0) as u64,
+        UPPER_A..=UPPER_F => (now - UPPER_A + 10) as u64,
+        LOWER_A..=LOWER_F => (now - LOWER_A + 10) as u64,
         _ => 16,
     }
 }
 
-// The value of a decimal digit, and 10 for any other byte.
-fn decimal_value(now: u16) -> u64
-    ensures { λ r. ⌜ r ≤ 10 ⌝ }
-{
-    match now {
-        48..=57 => (now - 48) as u64,
-        _ => 10,
-    }
-}
-
-fn amount(value: u64, past: u8) -> Natural {
-    Natural {
-        value,
-        past,
-        some: true,
-    }
-}
-
-// With one more digit. 2^64 is 10 * 1844674407370955161 + 6.
-fn grown(n: Natural, digit: u64) -> Natural
-    requires { ⌜ digit ≤ 10 ⌝ }
-{
-    if n.past > 0 {
-        return amount(0, 2);
-    }
-    if n.value < 1844674407370955161 {
-        return amount(n.value * 10 + digit, 0);
-    }
-    if n.value > 1844674407370955161 {
-        return amount(0, 2);
-    }
-    if digit < 6 {
-        return amount(18446744073709551610 + digit, 0);
-    }
-    if digit == 6 {
-        return amount(0, 1);
-    }
-    amount(0, 2)
-}
-
 // The decimal digits from here on, as many as there are.
-fn read_natural(s: Streams, input: &mut [u8; 65535], output: &[u8; 65535]) -> ReadNatural {
+fn read_natural(s: State, input: &mut [u8; 65535]) -> ReadNatural {
     let mut here = s;
-    let mut n = Natural {
-        value: 0,
-        past: 0,
-        some: false,
-    };
+    let mut n = decimal::none();
     let mut turns = u64::MAX;
-    while turns > 0 && decimal_value(here.now) < 10 {
-        n = grown(n, decimal_value(here.now));
-        here = advance(here, input, output);
+    while turns > 0 && is_digit(here.now) {
+        n = grown(n, here.now);
+        here = advance(here, input);
         turns -= 1;
     }
     ReadNatural { s: here, n }
 }
 
-// A natural number in a place that has no signed ones.
-fn unsigned(n: Natural, minus: bool, largest: u64) -> Sum {
-    if minus || !n.some {
-        return Sum::Wrong;
-    }
-    if n.past == 1 && largest == u64::MAX {
-        return Sum::OneAbove;
-    }
-    if n.past > 0 {
-        return Sum::Wrong;
-    }
-    if n.value <= largest {
-        return Sum::Suits(n.value);
-    }
-    if n.value - 1 == largest {
-        return Sum::OneAbove;
-    }
-    Sum::Wrong
-}
-
-// The code of a raw number.
-fn signed(n: Natural, minus: bool) -> Sum {
-    if !n.some || n.past > 0 || n.value > 0x8000_0000 {
-        return Sum::Wrong;
-    }
-    coded(n.value, minus)
-}
-
-fn coded(size: u64, minus: bool) -> Sum
-    requires { ⌜ size ≤ 0x8000_0000 ⌝ }
-{
-    if minus {
-        return Sum::Suits(0x8000_0000 - size);
-    }
-    if size == 0x8000_0000 {
-        return Sum::OneAbove;
-    }
-    Sum::Suits(0x8000_0000 + size)
-}
-
-fn read_unsigned(
-    s: Streams,
-    input: &mut [u8; 65535],
-    output: &[u8; 65535],
-    minus: bool,
-    largest: u64,
-) -> ReadSum {
-    let read = read_natural(s, input, output);
+fn read_unsigned(s: State, input: &mut [u8; 65535], largest: u64) -> ReadSum {
+    let read = read_natural(s, input);
     let after = read.s;
     let n = read.n;
     ReadSum {
         s: after,
-        sum: unsigned(n, minus, largest),
+        sum: unsigned(n, largest),
     }
 }
 
-fn read_signed(s: Streams, input: &mut [u8; 65535], output: &[u8; 65535], minus: bool) -> ReadSum {
-    let read = read_natural(s, input, output);
+fn read_signed(s: State, input: &mut [u8; 65535], minus: bool) -> ReadSum {
+    let read = read_natural(s, input);
     let after = read.s;
     let n = read.n;
     ReadSum {
@@ -191,42 +103,34 @@ fn read_signed(s: Streams, input: &mut [u8; 65535], output: &[u8; 65535], minus:
     }
 }
 
-// A raw number, of which the minus sign may have been read before.
-fn read_raw(s: Streams, input: &mut [u8; 65535], output: &[u8; 65535], minus: bool) -> ReadSum {
-    if s.now == 45 && !minus {
-        let after = advance(s, input, output);
-        return read_signed(after, input, output, true);
+fn read_raw(s: State, input: &mut [u8; 65535]) -> ReadSum {
+    if s.now == MINUS {
+        return read_signed(advance(s, input), input, true);
     }
-    read_signed(s, input, output, minus)
+    read_signed(s, input, false)
+}
+
+fn exactly(value: u64, digits: u64, width: u64) -> Sum {
+    if digits == width {
+        return Sum::Suits(value);
+    }
+    Sum::Wrong
 }
 
 // A float's bit pattern, of exactly `width` hexadecimal digits.
-fn read_pattern(
-    s: Streams,
-    input: &mut [u8; 65535],
-    output: &[u8; 65535],
-    minus: bool,
-    width: u64,
-) -> ReadSum {
+fn read_pattern(s: State, input: &mut [u8; 65535], width: u64) -> ReadSum {
     let mut here = s;
     let mut value: u64 = 0;
     let mut digits: u64 = 0;
     while digits < u64::MAX && hex_value(here.now) < 16 {
         value = (value << 4) | hex_value(here.now);
-        here = advance(here, input, output);
+        here = advance(here, input);
         digits += 1;
     }
     ReadSum {
         s: here,
-        sum: whole(value, digits, minus, width),
+        sum: exactly(value, digits, width),
     }
-}
-
-fn whole(value: u64, digits: u64, minus: bool, width: u64) -> Sum {
-    if minus || digits != width {
-        return Sum::Wrong;
-    }
-    Sum::Suits(value)
 }
 
 // The largest code of a place.
@@ -245,53 +149,57 @@ pub fn is_decimal(place: Place) -> bool {
     }
 }
 
-// A number as its place has it, up to the first byte that is none of its digits. `minus` says that a minus sign stood before.
-pub fn read_sum(
-    s: Streams,
-    input: &mut [u8; 65535],
-    output: &[u8; 65535],
-    place: Place,
-    minus: bool,
-) -> ReadSum {
+// A number as its place has it, up to the first byte that is none of its digits.
+pub fn read_sum(s: State, input: &mut [u8; 65535], place: Place) -> ReadSum {
     match place {
-        Place::Short => read_unsigned(s, input, output, minus, 65535),
-        Place::Any => read_unsigned(s, input, output, minus, u64::MAX),
-        Place::Raw => read_raw(s, input, output, minus),
-        Place::Single => read_pattern(s, input, output, minus, 8),
-        Place::Double => read_pattern(s, input, output, minus, 16),
+        Place::Short | Place::Any => read_unsigned(s, input, largest(place)),
+        Place::Raw => read_raw(s, input),
+        Place::Single => read_pattern(s, input, 8),
+        Place::Double => read_pattern(s, input, 16),
+    }
+}
+
+// The same where a minus sign has been read, which only a raw number begins with.
+pub fn read_negative(s: State, input: &mut [u8; 65535], place: Place) -> ReadSum {
+    match place {
+        Place::Raw => read_signed(s, input, true),
+        Place::Short | Place::Any | Place::Single | Place::Double => ReadSum { s, sum: Sum::Wrong },
+    }
+}
+
+// A word counts only where it is whole.
+fn whole(s: State) -> State {
+    if ends_word(s.now) {
+        return s;
+    }
+    wrong(s, BAD_NUMBER)
+}
+
+fn settled(s: State, sum: Sum) -> ReadNumber {
+    match sum {
+        Sum::Suits(value) => ReadNumber { s: whole(s), value },
+        Sum::OneAbove | Sum::Wrong => ReadNumber {
+            s: wrong(s, BAD_NUMBER),
+            value: 0,
+        },
     }
 }
 
 // The next word of the line as a number.
-pub fn read_number(
-    s: Streams,
-    input: &mut [u8; 65535],
-    output: &[u8; 65535],
-    place: Place,
-) -> ReadNumber {
-    let start = skip_spaces(s, input, output);
-    if ends_line(start.now) {
-        return ReadNumber {
-            s: start,
-            got: Got::Wrong(Problem::TooFewWords),
-        };
-    }
-    let read = read_sum(start, input, output, place, false);
+pub fn read_number(s: State, input: &mut [u8; 65535], place: Place) -> ReadNumber {
+    let read = read_sum(next_word(s, input), input, place);
     let after = read.s;
     let sum = read.sum;
-    ReadNumber {
-        s: after,
-        got: whole_word(sum, after.now),
-    }
+    settled(after, sum)
 }
 
-fn whole_word(sum: Sum, now: u16) -> Got {
-    if !ends_word(now) {
-        return Got::Wrong(Problem::BadNumber);
-    }
-    match sum {
-        Sum::Suits(value) => Got::Value(value),
-        Sum::OneAbove | Sum::Wrong => Got::Wrong(Problem::BadNumber),
+// The last word of the line as a number.
+pub fn last_number(s: State, input: &mut [u8; 65535], place: Place) -> ReadNumber {
+    let read = read_number(s, input, place);
+    let after = read.s;
+    ReadNumber {
+        s: no_more_words(after, input),
+        value: read.value,
     }
 }
 

@@ -1,6 +1,6 @@
 -- `draw` is safe and ends: nothing has to hold from turn to turn, and the measure is what is left. Assumes nothing.
-use Prim.Native.Nat.{_-_}
 use borrow.Author.Needs.{needs}
+use Prim.Native.Nat.{_-_}
 use Rattle.groat_pictures.proofs.draw.Statement.{statement}
 use Rattle.groat_pictures.proofs.draw.Tie as tie
 

@@ -6,25 +6,25 @@ use Rattle.groat_questions.proofs.put_each.Statement.{statement}
 use Rattle.groat_questions.proofs.put_each.Tie as tie
 
 abbrev Inv-loop : tie.InvT-loop
-Inv-loop output₀ question table floats row leading here₀ i₀ output here i = Unit {0}
+Inv-loop asked output₀ table floats row before here₀ i₀ output here i = Unit {0}
 
 abbrev μ-loop : tie.MeasureT-loop
-μ-loop output₀ question table floats row leading here₀ i₀ output here i = length row - i
+μ-loop asked output₀ table floats row before here₀ i₀ output here i = length row - i
 
 loop-holds : tie.Need-loop-holds Inv-loop μ-loop
 loop-holds c = search needs
 
-put-comma-requires : tie.Need-put-comma-requires Inv-loop μ-loop
-put-comma-requires c κs = search needs
+wrapping-add-usize-requires : tie.Need-wrapping-add-usize-requires Inv-loop μ-loop
+wrapping-add-usize-requires c κs = search needs
 
-mul-put-answer : tie.Need-mul-put-answer Inv-loop μ-loop
-mul-put-answer c = search needs
+mul-put-item : tie.Need-mul-put-item Inv-loop μ-loop
+mul-put-item c = search needs
 
-shared-slice-read-put-answer : tie.Need-shared-slice-read-put-answer Inv-loop μ-loop
-shared-slice-read-put-answer c = search needs
+shared-slice-read-put-item : tie.Need-shared-slice-read-put-item Inv-loop μ-loop
+shared-slice-read-put-item c = search needs
 
-put-answer-requires : tie.Need-put-answer-requires Inv-loop μ-loop
-put-answer-requires c κs = search needs
+put-item-requires : tie.Need-put-item-requires Inv-loop μ-loop
+put-item-requires c κs = search needs
 
 add-i : tie.Need-add-i Inv-loop μ-loop
 add-i c = search needs
@@ -45,10 +45,10 @@ put-each-spec =
     Inv-loop
     μ-loop
     loop-holds
-    put-comma-requires
-    mul-put-answer
-    shared-slice-read-put-answer
-    put-answer-requires
+    wrapping-add-usize-requires
+    mul-put-item
+    shared-slice-read-put-item
+    put-item-requires
     add-i
     loop-less
     loop-again

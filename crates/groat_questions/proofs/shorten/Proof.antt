@@ -1,7 +1,7 @@
 -- `shorten` is safe and ends: nothing has to hold from turn to turn, and the measure is what is left. Assumes nothing.
+use borrow.Author.Needs.{needs}
 use Prim.Native.Nat.{_-_}
 use lib.ListN.{length}
-use borrow.Author.Needs.{needs}
 use Rattle.groat_questions.proofs.shorten.Statement.{statement}
 use Rattle.groat_questions.proofs.shorten.Tie as tie
 

@@ -1,14 +1,14 @@
 -- `read_digits` is safe and ends: nothing has to hold from turn to turn, and the measure is what is left. Assumes nothing.
-use Prim.Native.Nat.{_-_}
 use borrow.Author.Needs.{needs}
+use Prim.Native.Nat.{_-_}
 use Rattle.groat_lists.proofs.bytes.read_digits.Statement.{statement}
 use Rattle.groat_lists.proofs.bytes.read_digits.Tie as tie
 
 abbrev Inv-loop : tie.InvT-loop
-Inv-loop input₀ output bytes₀ here₀ n₀ input bytes here n = Unit {0}
+Inv-loop input₀ bytes₀ here₀ n₀ input bytes here n = Unit {0}
 
 abbrev μ-loop : tie.MeasureT-loop
-μ-loop input₀ output bytes₀ here₀ n₀ input bytes here n = 18446744073709551615 - n
+μ-loop input₀ bytes₀ here₀ n₀ input bytes here n = 18446744073709551615 - n
 
 loop-holds : tie.Need-loop-holds Inv-loop μ-loop
 loop-holds c = search needs

@@ -4,10 +4,10 @@ use Rattle.groat_lists.proofs.held.read_items.Statement.{statement}
 use Rattle.groat_lists.proofs.held.read_items.Tie as tie
 
 abbrev Inv-loop : tie.InvT-loop
-Inv-loop input₀ output place codes₀ row₀ here₀ list₀ n₀ turns₀ input codes row here list n turns = Unit {0}
+Inv-loop input₀ place codes₀ row₀ here₀ list₀ n₀ turns₀ input codes row here list n turns = Unit {0}
 
 abbrev μ-loop : tie.MeasureT-loop
-μ-loop input₀ output place codes₀ row₀ here₀ list₀ n₀ turns₀ input codes row here list n turns = turns
+μ-loop input₀ place codes₀ row₀ here₀ list₀ n₀ turns₀ input codes row here list n turns = turns
 
 open-list-requires : tie.Need-open-list-requires Inv-loop μ-loop
 open-list-requires c κs = search needs

@@ -4,10 +4,10 @@ use Rattle.groat_lists.proofs.lists.fill_row.Statement.{statement}
 use Rattle.groat_lists.proofs.lists.fill_row.Tie as tie
 
 abbrev Inv-loop : tie.InvT-loop
-Inv-loop input₀ output place row₀ list₀ here₀ n₀ turns₀ input row list here n turns = Unit {0}
+Inv-loop input₀ place row₀ list₀ here₀ n₀ turns₀ input row list here n turns = Unit {0}
 
 abbrev μ-loop : tie.MeasureT-loop
-μ-loop input₀ output place row₀ list₀ here₀ n₀ turns₀ input row list here n turns = turns
+μ-loop input₀ place row₀ list₀ here₀ n₀ turns₀ input row list here n turns = turns
 
 loop-holds : tie.Need-loop-holds Inv-loop μ-loop
 loop-holds c = search needs
@@ -18,11 +18,11 @@ goes-on-requires c κs = search needs
 waits-requires : tie.Need-waits-requires Inv-loop μ-loop
 waits-requires c κs = search needs
 
-step-requires : tie.Need-step-requires Inv-loop μ-loop
-step-requires c κs = search needs
-
 kept-requires : tie.Need-kept-requires Inv-loop μ-loop
 kept-requires c κs = search needs
+
+step-requires : tie.Need-step-requires Inv-loop μ-loop
+step-requires c κs = search needs
 
 sub-turns : tie.Need-sub-turns Inv-loop μ-loop
 sub-turns c = search needs
@@ -54,8 +54,8 @@ fill-row-spec =
     loop-holds
     goes-on-requires
     waits-requires
-    step-requires
     kept-requires
+    step-requires
     sub-turns
     loop-less
     loop-again

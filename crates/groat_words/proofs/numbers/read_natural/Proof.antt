@@ -2,21 +2,27 @@
 use borrow.Author.Needs.{needs}
 use Rattle.groat_words.proofs.numbers.read_natural.Statement.{statement}
 use Rattle.groat_words.proofs.numbers.read_natural.Tie as tie
+use Rattle.groat_words.proofs.numbers.read_natural.Reads as reads
+use Rattle.groat_words.proofs.numbers.read_natural.Lts as lts
+use Rattle.decimal.proofs.grown.Reads as grown-reads
+use Rattle.decimal.proofs.is_digit.Reads as is-digit-reads
+use Rattle.decimal.proofs.none.Reads as none-reads
+use Rattle.groat_io.proofs.advance.Reads as advance-reads
 
 abbrev Inv-loop : tie.InvT-loop
-Inv-loop input₀ output here₀ n₀ turns₀ input here n turns = Unit {0}
+Inv-loop input₀ here₀ n₀ turns₀ input here n turns = Unit {0}
 
 abbrev μ-loop : tie.MeasureT-loop
-μ-loop input₀ output here₀ n₀ turns₀ input here n turns = turns
+μ-loop input₀ here₀ n₀ turns₀ input here n turns = turns
+
+none-requires : tie.Need-none-requires Inv-loop μ-loop
+none-requires c κs = search needs
 
 loop-holds : tie.Need-loop-holds Inv-loop μ-loop
 loop-holds c = search needs
 
-decimal-value-requires : tie.Need-decimal-value-requires Inv-loop μ-loop
-decimal-value-requires c κs = search needs
-
-decimal-value-requires-2 : tie.Need-decimal-value-requires-2 Inv-loop μ-loop
-decimal-value-requires-2 c κs = search needs
+is-digit-requires : tie.Need-is-digit-requires Inv-loop μ-loop
+is-digit-requires c κs = search needs
 
 grown-requires : tie.Need-grown-requires Inv-loop μ-loop
 grown-requires c κs = search needs
@@ -45,9 +51,9 @@ read-natural-spec =
     (tie.spec
     Inv-loop
     μ-loop
+    none-requires
     loop-holds
-    decimal-value-requires
-    decimal-value-requires-2
+    is-digit-requires
     grown-requires
     advance-requires
     sub-turns

@@ -1,14 +1,19 @@
 -- `read_pattern` is safe and ends: nothing has to hold from turn to turn, and the measure is what is left. Assumes nothing.
-use Prim.Native.Nat.{_-_}
 use borrow.Author.Needs.{needs}
+use Prim.Native.Nat.{_-_}
 use Rattle.groat_words.proofs.numbers.read_pattern.Statement.{statement}
 use Rattle.groat_words.proofs.numbers.read_pattern.Tie as tie
+use Rattle.groat_words.proofs.numbers.read_pattern.Reads as reads
+use Rattle.groat_words.proofs.numbers.read_pattern.Lts as lts
+use Rattle.groat_io.proofs.advance.Reads as advance-reads
+use Rattle.groat_words.proofs.numbers.exactly.Reads as exactly-reads
+use Rattle.groat_words.proofs.numbers.hex_value.Reads as hex-value-reads
 
 abbrev Inv-loop : tie.InvT-loop
-Inv-loop input₀ output minus width here₀ value₀ digits₀ input here value digits = Unit {0}
+Inv-loop input₀ width here₀ value₀ digits₀ input here value digits = Unit {0}
 
 abbrev μ-loop : tie.MeasureT-loop
-μ-loop input₀ output minus width here₀ value₀ digits₀ input here value digits = 18446744073709551615 - digits
+μ-loop input₀ width here₀ value₀ digits₀ input here value digits = 18446744073709551615 - digits
 
 loop-holds : tie.Need-loop-holds Inv-loop μ-loop
 loop-holds c = search needs
@@ -31,8 +36,8 @@ loop-less c = search needs
 loop-again : tie.Need-loop-again Inv-loop μ-loop
 loop-again c = search needs
 
-whole-requires : tie.Need-whole-requires Inv-loop μ-loop
-whole-requires c κs = search needs
+exactly-requires : tie.Need-exactly-requires Inv-loop μ-loop
+exactly-requires c κs = search needs
 
 returns : tie.Need-returns Inv-loop μ-loop
 returns c = search needs
@@ -50,5 +55,5 @@ read-pattern-spec =
     add-digits
     loop-less
     loop-again
-    whole-requires
+    exactly-requires
     returns)

@@ -1,14 +1,16 @@
 -- `read_word` is safe and ends: nothing has to hold from turn to turn, and the measure is what is left. Assumes nothing.
-use Prim.Native.Nat.{_-_}
 use borrow.Author.Needs.{needs}
 use Rattle.groat_words.proofs.words.read_word.Statement.{statement}
 use Rattle.groat_words.proofs.words.read_word.Tie as tie
 
 abbrev Inv-loop : tie.InvT-loop
-Inv-loop input₀ output word₀ here₀ n₀ input word here n = Unit {0}
+Inv-loop input₀ word₀ here₀ n₀ turns₀ input word here n turns = Unit {0}
 
 abbrev μ-loop : tie.MeasureT-loop
-μ-loop input₀ output word₀ here₀ n₀ input word here n = 18446744073709551615 - n
+μ-loop input₀ word₀ here₀ n₀ turns₀ input word here n turns = turns
+
+next-word-requires : tie.Need-next-word-requires Inv-loop μ-loop
+next-word-requires c κs = search needs
 
 loop-holds : tie.Need-loop-holds Inv-loop μ-loop
 loop-holds c = search needs
@@ -25,8 +27,8 @@ keep-byte-requires c κs = search needs
 advance-requires : tie.Need-advance-requires Inv-loop μ-loop
 advance-requires c κs = search needs
 
-add-n : tie.Need-add-n Inv-loop μ-loop
-add-n c = search needs
+sub-turns : tie.Need-sub-turns Inv-loop μ-loop
+sub-turns c = search needs
 
 loop-less : tie.Need-loop-less Inv-loop μ-loop
 loop-less c = search needs
@@ -46,12 +48,13 @@ read-word-spec =
     (tie.spec
     Inv-loop
     μ-loop
+    next-word-requires
     loop-holds
     ends-word-requires
     byte-of-requires
     keep-byte-requires
     advance-requires
-    add-n
+    sub-turns
     loop-less
     loop-again
     returns

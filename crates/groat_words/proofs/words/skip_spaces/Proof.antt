@@ -2,12 +2,15 @@
 use borrow.Author.Needs.{needs}
 use Rattle.groat_words.proofs.words.skip_spaces.Statement.{statement}
 use Rattle.groat_words.proofs.words.skip_spaces.Tie as tie
+use Rattle.groat_words.proofs.words.skip_spaces.Reads as reads
+use Rattle.groat_words.proofs.words.skip_spaces.Lts as lts
+use Rattle.groat_io.proofs.advance.Reads as advance-reads
 
 abbrev Inv-loop : tie.InvT-loop
-Inv-loop input₀ output here₀ turns₀ input here turns = Unit {0}
+Inv-loop input₀ here₀ turns₀ input here turns = Unit {0}
 
 abbrev μ-loop : tie.MeasureT-loop
-μ-loop input₀ output here₀ turns₀ input here turns = turns
+μ-loop input₀ here₀ turns₀ input here turns = turns
 
 loop-holds : tie.Need-loop-holds Inv-loop μ-loop
 loop-holds c = search needs
