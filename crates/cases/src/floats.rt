@@ -1,19 +1,7 @@
 // Bit patterns of a case file as numbers, and back. Rattle has one NaN, so each NaN of a file is asked as that one, and each NaN that is
 // answered has the pattern that stands for all of them in a file.
-
-pub fn float_of(bits: u32) -> f32 {
-    if bits % 0x8000_0000 > 0x7f80_0000 {
-        return 0.0 / 0.0;
-    }
-    f32::from_bits(bits)
-}
-
-pub fn double_of(bits: u64) -> f64 {
-    if bits % 0x8000_0000_0000_0000 > 0x7ff0_0000_0000_0000 {
-        return 0.0 / 0.0;
-    }
-    f64::from_bits(bits)
-}
+pub use patterns::double_of;
+pub use patterns::float_of;
 
 pub fn pattern(x: f32) -> u32 {
     if x != x {

@@ -1,121 +1,96 @@
 // The bench program: the whole library at a prompt. It reads standard input to its end, one request a line, and answers each with a line.
 // docs/GROAT.md is its language.
-use crate::answers::Answered;
 use crate::answers::answer;
-use bench_io::INPUT_END;
-use bench_io::Streams;
-use bench_io::advance;
-use bench_io::flush;
-use bench_io::opened;
-use bench_io::put_byte;
-use bench_kept::Kept;
-use bench_requests::request_named;
-use bench_words::next_line;
-use bench_words::read_word;
-use bench_words::skip_spaces;
+use groat_io::INPUT_END;
+use groat_io::State;
+use groat_io::advance;
+use groat_io::flush;
+use groat_io::opened;
+use groat_io::put_byte;
+use groat_kept::bytes;
+use groat_requests::Request;
+use groat_requests::request_named;
+use groat_words::ends_line;
+use groat_words::next_line;
+use groat_words::put_problem;
+use groat_words::read_word;
+use groat_words::skip_spaces;
 
 mod answers;
-mod changes;
-mod plain;
+
+const COMMENT: u16 = b'#' as u16;
 
 // Whether a line that begins so gets no answer: it is empty, or a comment.
 fn is_silent(now: u16) -> bool {
-    if now == 35 {
+    if now == COMMENT {
         return true;
     }
-    bench_words::ends_line(now)
+    ends_line(now)
+}
+
+struct ReadRequest {
+    s: State,
+    request: Request,
+}
+
+fn named(word: &[u8; 4096], n: usize) -> Request {
+    request_named(bytes(word, n))
+}
+
+fn read_request(s: State, input: &mut [u8; 65535]) -> ReadRequest {
+    let mut word = [0u8; 4096];
+    let read = read_word(s, input, &mut word);
+    let here = read.s;
+    ReadRequest {
+        s: here,
+        request: named(&word, read.n),
+    }
+}
+
+// The end of an answer, which is written out before more input is waited for.
+fn put_end(s: State, output: &mut [u8; 65535]) -> State {
+    let told = put_problem(s, output);
+    flush(put_byte(told, output, b'\n'), output)
 }
 
 // One line, up to the first byte of the next.
 fn line(
-    s: Streams,
-    kept: Kept,
+    s: State,
     input: &mut [u8; 65535],
     output: &mut [u8; 65535],
-    word: &mut [u8; 4096],
-    codes: &mut [u64; 65537],
     table: &mut [u16; 65537],
-    out: &mut [u16; 65537],
     floats: &mut [f32; 65537],
-    first: &mut [f32; 65537],
-    second: &mut [f32; 65537],
     tag: &mut [u8; 131200],
-    spare: &mut [u8; 131200],
-) -> Answered {
-    let start = skip_spaces(s, input, output);
+) -> State {
+    let start = skip_spaces(s, input);
     if is_silent(start.now) {
-        return Answered {
-            s: next_line(start, input, output),
-            kept,
-        };
+        return next_line(start, input);
     }
-    let read = read_word(start, input, output, word);
-    let after = read.s;
-    let request = request_named(word, read.n);
-    let answered = answer(
-        request,
-        after,
-        kept,
-        input,
-        output,
-        word,
-        codes,
-        table,
-        out,
-        floats,
-        first,
-        second,
-        tag,
-        spare,
-    );
-    let here = answered.s;
-    let keeps = answered.kept;
-    let ended = put_byte(here, output, b'\n');
-    Answered {
-        s: next_line(ended, input, output),
-        kept: keeps,
-    }
+    let read = read_request(start, input);
+    let here = read.s;
+    let request = read.request;
+    let answered = answer(request, here, input, output, table, floats, tag);
+    next_line(put_end(answered, output), input)
 }
 
 // A proved loop has to end, and nothing says that the input does. So it counts its turns down from a number that no run uses up.
 fn main() {
     let mut input = [0u8; 65535];
     let mut output = [0u8; 65535];
-    let mut word = [0u8; 4096];
-    let mut codes = [0u64; 65537];
     let mut table = [0u16; 65537];
-    let mut out = [0u16; 65537];
     let mut floats = [0.0f32; 65537];
-    let mut first = [0.0f32; 65537];
-    let mut second = [0.0f32; 65537];
     let mut tag = [0u8; 131200];
-    let mut spare = [0u8; 131200];
-    let mut kept = Kept {
-        table: 0,
-        floats: 0,
-        tag: 0,
-    };
-    let mut s = advance(opened(), &mut input, &output);
+    let mut s = advance(opened(), &mut input);
     let mut turns = u64::MAX;
-    while turns > 0 && s.now != INPUT_END {
-        let answered = line(
+    while turns > 0 && s.now != INPUT_END && !s.broken {
+        s = line(
             s,
-            kept,
             &mut input,
             &mut output,
-            &mut word,
-            &mut codes,
             &mut table,
-            &mut out,
             &mut floats,
-            &mut first,
-            &mut second,
             &mut tag,
-            &mut spare,
         );
-        s = answered.s;
-        kept = answered.kept;
         turns -= 1;
     }
-    flush(s, &output);
 }

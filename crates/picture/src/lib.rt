@@ -9,7 +9,7 @@ mod plot;
 mod svg;
 
 // How many lines a plot has: its rows, the axis, and the scale below it.
-pub fn plot_rows() -> usize
+pub fn plot_lines() -> usize
     ensures { λ r. ⌜ r ≡ 22 ⌝ }
 {
     plot::LINES
@@ -17,13 +17,13 @@ pub fn plot_rows() -> usize
 
 // Writes a line of the table's plot, with no newline, and gives its length. A line that does not exist, and any line of a table
 // of no or more than 65,536 entries, has length 0.
-pub fn plot_line(table: &[u16], row: usize, out: &mut [u8; 128]) -> usize
-    ensures { λ r. ⌜ LinePromise (now (table .entry)) row r ⌝ }
+pub fn plot_line(table: &[u16], line: usize, out: &mut [u8; 128]) -> usize
+    ensures { λ r. ⌜ LinePromise (now (table .entry)) line r ⌝ }
 {
     if !sized(table.len()) {
         return 0;
     }
-    plot::line(table, row, out)
+    plot::line(table, line, out)
 }
 
 // How many pieces the table's svg file has: 0 for a table of no or more than 65,536 entries.

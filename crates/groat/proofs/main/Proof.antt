@@ -4,10 +4,10 @@ use Rattle.groat.proofs.main.Statement.{statement}
 use Rattle.groat.proofs.main.Tie as tie
 
 abbrev Inv-loop : tie.InvT-loop
-Inv-loop input₀ output₀ word₀ codes₀ table₀ out₀ floats₀ first₀ second₀ tag₀ spare₀ kept₀ s₀ turns₀ input output word codes table out floats first second tag spare kept s turns = Unit {0}
+Inv-loop input₀ output₀ table₀ floats₀ tag₀ s₀ turns₀ input output table floats tag s turns = Unit {0}
 
 abbrev μ-loop : tie.MeasureT-loop
-μ-loop input₀ output₀ word₀ codes₀ table₀ out₀ floats₀ first₀ second₀ tag₀ spare₀ kept₀ s₀ turns₀ input output word codes table out floats first second tag spare kept s turns = turns
+μ-loop input₀ output₀ table₀ floats₀ tag₀ s₀ turns₀ input output table floats tag s turns = turns
 
 opened-requires : tie.Need-opened-requires Inv-loop μ-loop
 opened-requires c κs = search needs
@@ -30,11 +30,14 @@ loop-less c = search needs
 loop-again : tie.Need-loop-again Inv-loop μ-loop
 loop-again c = search needs
 
-flush-requires : tie.Need-flush-requires Inv-loop μ-loop
-flush-requires c κs = search needs
-
 returns : tie.Need-returns Inv-loop μ-loop
 returns c = search needs
+
+returns-2 : tie.Need-returns-2 Inv-loop μ-loop
+returns-2 c = search needs
+
+returns-3 : tie.Need-returns-3 Inv-loop μ-loop
+returns-3 c = search needs
 
 pub main-spec : {M : Type 1} → statement M
 main-spec =
@@ -49,5 +52,6 @@ main-spec =
     sub-turns
     loop-less
     loop-again
-    flush-requires
-    returns)
+    returns
+    returns-2
+    returns-3)

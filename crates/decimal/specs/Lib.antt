@@ -1,0 +1,2 @@
+-- `Decimal`: what a number's digits come to.
+pub mod Decimal

@@ -1,0 +1,224 @@
+// Where the bench program stands, its standard input and its standard output. Input comes in byte by byte out of one buffer that is filled
+// again whenever it is used up. Output is gathered in another, and written out when that is full and wherever `flush` is called: before the
+// program may have to wait for input, so that nobody waits for an answer. Both have 65,535 bytes, so that how many are used is any 16-bit number.
+ghost use mathlib.Core.Path.{_≡_};
+ghost use Prim.Native.Nat.{_≤_, _<_};
+
+// What `now` is where a line ends and where the input ends; below them it is a byte.
+pub const LINE_END: u16 = 256;
+
+pub const INPUT_END: u16 = 257;
+
+const CARRIAGE_RETURN: u16 = b'\r' as u16;
+
+// What goes from call to call by value. The buffers themselves are lent beside it.
+pub struct State {
+    // the byte of the line that is looked at, or one of the two ends
+    pub now: u16,
+    // what is wrong with the line: 0 for nothing, or a number of groat_words
+    pub problem: u8,
+    // whether a write to standard output has failed: nothing more is written then
+    pub broken: bool,
+    // how many places of their buffers the kept table, floats and tag have
+    pub table: usize,
+    pub floats: usize,
+    pub tag: usize,
+    // the next byte of the input buffer, and how many it holds
+    at: u16,
+    held: u16,
+    // how many bytes of output wait
+    waiting: u16,
+}
+
+fn wide(x: u16) -> usize
+    ensures { λ r. ⌜ (r ≡ x) × (r ≤ 65535) ⌝ }
+{
+    x as usize
+}
+
+fn widened(byte: u8) -> u16 {
+    byte as u16
+}
+
+// Before the first byte: nothing is kept.
+pub fn opened() -> State {
+    State {
+        now: LINE_END,
+        problem: 0,
+        broken: false,
+        table: 0,
+        floats: 0,
+        tag: 0,
+        at: 0,
+        held: 0,
+        waiting: 0,
+    }
+}
+
+// Fills the input buffer again.
+fn refill(s: State, input: &mut [u8; 65535]) -> State {
+    let got = libc::read(libc::STDIN_FILENO, input);
+    let mut after = s;
+    after.at = 0;
+    after.held = io::count(got, input) as u16;
+    after
+}
+
+// With a byte at hand, unless the input has ended.
+fn ready(s: State, input: &mut [u8; 65535]) -> State {
+    if s.at < s.held {
+        return s;
+    }
+    refill(s, input)
+}
+
+// Whether the next byte can be looked at without waiting for input.
+pub fn at_hand(s: State) -> bool {
+    s.at < s.held
+}
+
+fn looking_at(s: State, now: u16) -> State {
+    let mut after = s;
+    after.now = now;
+    after
+}
+
+// Past the byte at hand.
+fn passed(s: State) -> State
+    requires { ⌜ s .at < s .held ⌝ }
+{
+    let mut after = s;
+    after.at = s.at + 1;
+    after
+}
+
+// After a carriage return, which is dropped where the line or the input ends with it.
+fn after_return(s: State, input: &mut [u8; 65535]) -> State {
+    let here = ready(s, input);
+    if here.at >= here.held {
+        return looking_at(here, INPUT_END);
+    }
+    let at = here.at;
+    if input[wide(at)] == b'\n' {
+        return looking_at(passed(here), LINE_END);
+    }
+    looking_at(here, CARRIAGE_RETURN)
+}
+
+// Looks at the next byte.
+pub fn advance(s: State, input: &mut [u8; 65535]) -> State {
+    let here = ready(s, input);
+    if here.at >= here.held {
+        return looking_at(here, INPUT_END);
+    }
+    let at = here.at;
+    let byte = input[wide(at)];
+    if byte == b'\n' {
+        return looking_at(passed(here), LINE_END);
+    }
+    if byte == b'\r' {
+        return after_return(passed(here), input);
+    }
+    looking_at(passed(here), widened(byte))
+}
+
+// Whether a text could be written. Where it could not, standard error says why.
+fn sent(text: &[u8]) -> bool {
+    if io::write_all(libc::STDOUT_FILENO, text) {
+        return true;
+    }
+    os::fail(b"groat: standard output");
+    false
+}
+
+fn emptied(s: State, broken: bool) -> State
+    ensures { λ r. ⌜ r .waiting ≡ 0 ⌝ }
+{
+    let mut after = s;
+    after.waiting = 0;
+    after.broken = broken;
+    after
+}
+
+// Writes out what waits.
+pub fn flush(s: State, output: &[u8; 65535]) -> State
+    ensures { λ r. ⌜ r .waiting ≡ 0 ⌝ }
+{
+    if s.broken {
+        return emptied(s, true);
+    }
+    let n = wide(s.waiting);
+    let text: &[u8] = output;
+    emptied(s, !sent(&text[0..n]))
+}
+
+// With room for one byte of output.
+fn roomy(s: State, output: &[u8; 65535]) -> State
+    ensures { λ r. ⌜ r .waiting < 65535 ⌝ }
+{
+    if s.waiting < 65535 {
+        return s;
+    }
+    flush(s, output)
+}
+
+pub fn put_byte(s: State, output: &mut [u8; 65535], byte: u8) -> State {
+    let here = roomy(s, output);
+    let at = here.waiting;
+    output[wide(at)] = byte;
+    let mut after = here;
+    after.waiting = at + 1;
+    after
+}
+
+pub fn put(s: State, output: &mut [u8; 65535], text: &[u8]) -> State {
+    let mut after = s;
+    let mut i = 0;
+    while i < text.len() {
+        after = put_byte(after, output, text[i]);
+        i += 1;
+    }
+    after
+}
+
+// A byte of line `at` of some lines, where that is the one asked for.
+fn put_asked(s: State, output: &mut [u8; 65535], byte: u8, asked: bool) -> State {
+    if asked && byte != b'\n' {
+        return put_byte(s, output, byte);
+    }
+    s
+}
+
+fn line_after(byte: u8, line: usize) -> usize {
+    if byte == b'\n' {
+        return std::num::wrapping_add_usize(line, 1);
+    }
+    line
+}
+
+// One of some lines, each of which ends with LF; they count from 0.
+pub fn put_line_of(s: State, output: &mut [u8; 65535], lines: &[u8], asked: usize) -> State {
+    let mut after = s;
+    let mut line = 0;
+    let mut i = 0;
+    while i < lines.len() {
+        let byte = lines[i];
+        after = put_asked(after, output, byte, line == asked);
+        line = line_after(byte, line);
+        i += 1;
+    }
+    after
+}
+
+pub fn put_decimal(s: State, output: &mut [u8; 65535], n: u64) -> State {
+    let mut digits = [0u8; 20];
+    let k = io::decimal(n, &mut digits);
+    put(s, output, &digits[..k])
+}
+
+// As many hexadecimal digits as `width` says.
+pub fn put_hex(s: State, output: &mut [u8; 65535], n: u64, width: usize) -> State {
+    let mut digits = [0u8; 16];
+    let k = io::hex(n, width, &mut digits);
+    put(s, output, &digits[..k])
+}

@@ -1,0 +1,48 @@
+-- `skip_spaces` is safe and ends: nothing has to hold from turn to turn, and the measure is what is left. Assumes nothing.
+use borrow.Author.Needs.{needs}
+use Rattle.groat_words.proofs.words.skip_spaces.Statement.{statement}
+use Rattle.groat_words.proofs.words.skip_spaces.Tie as tie
+use Rattle.groat_words.proofs.words.skip_spaces.Reads as reads
+use Rattle.groat_words.proofs.words.skip_spaces.Lts as lts
+use Rattle.groat_io.proofs.advance.Reads as advance-reads
+
+abbrev Inv-loop : tie.InvT-loop
+Inv-loop input₀ here₀ turns₀ input here turns = Unit {0}
+
+abbrev μ-loop : tie.MeasureT-loop
+μ-loop input₀ here₀ turns₀ input here turns = turns
+
+loop-holds : tie.Need-loop-holds Inv-loop μ-loop
+loop-holds c = search needs
+
+advance-requires : tie.Need-advance-requires Inv-loop μ-loop
+advance-requires c κs = search needs
+
+sub-turns : tie.Need-sub-turns Inv-loop μ-loop
+sub-turns c = search needs
+
+loop-less : tie.Need-loop-less Inv-loop μ-loop
+loop-less c = search needs
+
+loop-again : tie.Need-loop-again Inv-loop μ-loop
+loop-again c = search needs
+
+returns : tie.Need-returns Inv-loop μ-loop
+returns c = search needs
+
+returns-2 : tie.Need-returns-2 Inv-loop μ-loop
+returns-2 c = search needs
+
+pub skip-spaces-spec : {M : Type 1} → statement M
+skip-spaces-spec =
+    tie.close
+    (tie.spec
+    Inv-loop
+    μ-loop
+    loop-holds
+    advance-requires
+    sub-turns
+    loop-less
+    loop-again
+    returns
+    returns-2)

@@ -1,0 +1,2 @@
+-- `Places`: the sum of two places, and a place past the end.
+pub mod Places

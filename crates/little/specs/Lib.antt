@@ -1,0 +1,2 @@
+-- `Little`: little-endian numbers.
+pub mod Little

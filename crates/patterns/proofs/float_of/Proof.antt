@@ -1,0 +1,25 @@
+-- `float_of` is safe: the test lets no NaN's pattern past. Assumes nothing.
+use borrow.Author.Needs.{needs}
+use mathlib.Core.Path.{sym, subst}
+use mathlib.Core.Bool.{Bool, not}
+use Prim.Native.Nat.{_%_}
+use lib.Arith.{le→nltb}
+use lib.Dec.{T}
+use lib.Ieee.{binary32}
+use lib.Ieee.Bits.{nanBits-above}
+use Rattle.patterns.proofs.float_of.Statement.{statement}
+use Rattle.patterns.proofs.float_of.Tie as tie
+
+returns : tie.Need-returns
+returns c = search needs
+
+float-from-bits-result : tie.Need-float-from-bits-result
+float-from-bits-result c =
+    let b = c .before .args .bits in
+    subst (λ (t : Bool). T (not t)) (sym (nanBits-above binary32 b)) (le→nltb 2139095040 (b % 2147483648) (c .if1 .left))
+
+returns-2 : tie.Need-returns-2
+returns-2 c = search needs
+
+pub float-of-spec : {M : Type 1} → statement M
+float-of-spec = tie.close (tie.spec returns float-from-bits-result returns-2)

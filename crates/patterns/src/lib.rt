@@ -1,0 +1,14 @@
+// Bit patterns as floats. Rattle makes no float of a NaN's pattern, so one NaN stands for all of them.
+pub fn float_of(bits: u32) -> f32 {
+    if bits % 0x8000_0000 > 0x7f80_0000 {
+        return 0.0 / 0.0;
+    }
+    f32::from_bits(bits)
+}
+
+pub fn double_of(bits: u64) -> f64 {
+    if bits % 0x8000_0000_0000_0000 > 0x7ff0_0000_0000_0000 {
+        return 0.0 / 0.0;
+    }
+    f64::from_bits(bits)
+}
