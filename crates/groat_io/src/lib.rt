@@ -181,7 +181,7 @@ pub fn put(s: State, output: &mut [u8; 65535], text: &[u8]) -> State {
     after
 }
 
-// A byte of line `at` of some lines, where that is the one asked for.
+// A byte of some lines, where its line is the one asked for.
 fn put_asked(s: State, output: &mut [u8; 65535], byte: u8, asked: bool) -> State {
     if asked && byte != b'\n' {
         return put_byte(s, output, byte);

@@ -108,7 +108,8 @@ pub fn last_word(s: State, input: &mut [u8; 65535], word: &mut [u8; 4096]) -> Re
     }
 }
 
-// How a word compares with names so far: it is the one at `place`; or the one that is looked at is there, and begins with `same` bytes of it.
+// How a word compares with names so far. Where it is found, it is the name at `place`; else that name is looked at, of which `same` bytes have been
+// compared, and `begins` says whether the word has them all.
 struct Compared {
     found: bool,
     place: usize,
