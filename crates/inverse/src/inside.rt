@@ -19,7 +19,7 @@ enum Found {
     Missed(u16),
 }
 
-// The bisection, left at the first exact hit. The last candidate, r = l, is not probed: the answers would leave the Rust's.
+// The bisection, left by `break` at the first exact hit, the form that document 01 names. The last candidate, r = l, is not probed: the answers would leave the Rust's.
 fn search(table: &[u16], v: u16, left: usize, right: usize) -> Found
     requires { ⌜ sized (length (now table)) ≡ true ⌝ }
     requires { ⌜ Ready (now table) v left right ⌝ }
@@ -28,21 +28,24 @@ fn search(table: &[u16], v: u16, left: usize, right: usize) -> Found
     let top = table.len() - 1;
     let mut l = left;
     let mut r = right;
-    let mut x = 0;
-    while l < r {
+    let mut x: usize = 0;
+    let found = loop {
+        if r <= l {
+            break Found::Missed(x as u16);
+        }
         x = (l + r) / 2;
         let p = (x - 1) as u16;
         let y = lookup_to(table, top, p);
         if y == v {
-            return Found::Hit(p);
+            break Found::Hit(p);
         }
         if v < y {
             r = x - 1;
         } else {
             l = x + 1;
         }
-    }
-    Found::Missed(x as u16)
+    };
+    found
 }
 
 // The inverse, for whoever has tested the table's length.

@@ -22,11 +22,14 @@ sub-top c = within-low 1 65536 _ (c .before .pre .0)
 loop-holds : tie.Need-loop-holds Inv-loop μ-loop
 loop-holds c = (c .before .pre .1, from-start _ _ _ _, omega arith)
 
+cast-t15 : tie.Need-cast-t15 Inv-loop μ-loop
+cast-t15 c = omega (arith, c .before .loop .inv .2)
+
 add-x : tie.Need-add-x Inv-loop μ-loop
 add-x c = omega (arith, c .before .loop .inv .0 .high)
 
 sub-p : tie.Need-sub-p Inv-loop μ-loop
-sub-p c = probe-low _ _ _ _ (c .before .loop .inv .0) (c .loop-test .taken)
+sub-p c = probe-low _ _ _ _ (c .before .loop .inv .0) (c .if1 .left)
 
 cast-p : tie.Need-cast-p Inv-loop μ-loop
 cast-p c = omega (arith, c .before .loop .inv .0 .high)
@@ -36,15 +39,10 @@ lookup-to-requires c κs =
     let p = c .before .before .before .pre .0 in
     omega (arith, within-low 1 65536 _ p, within-high 1 65536 _ p)
 
-returns : tie.Need-returns Inv-loop μ-loop
-returns c =
-    let e = c .before .before in
-    sym (from-hit _ _ _ _ _ (e .loop-test .taken) (sym (c .before .lookup-to .ensures) ∙ c .if1 .taken)) ∙ e .before .loop .inv .1
-
 sub-r : tie.Need-sub-r Inv-loop μ-loop
 sub-r c =
     let e = c .before .before .before in
-    let low = probe-low _ _ _ _ (e .before .loop .inv .0) (e .loop-test .taken) in
+    let low = probe-low _ _ _ _ (e .before .loop .inv .0) (e .if1 .left) in
     omega arith
 
 loop-less : tie.Need-loop-less Inv-loop μ-loop
@@ -54,8 +52,8 @@ loop-again : tie.Need-loop-again Inv-loop μ-loop
 loop-again c =
     let e = c .before .before .before in
     let i = e .before .loop .inv in
-    let a = subst (λ (y : ℕ). e .before .before .before .args .v < y) (c .before .before .lookup-to .ensures) (c .if2 .taken) in
-    (ready-left _ _ _ _ (i .0) (e .loop-test .taken) a, sym (from-left _ _ _ _ _ (e .loop-test .taken) a) ∙ i .1, probe-high _ _ _ _ (i .0) (e .loop-test .taken))
+    let a = subst (λ (y : ℕ). e .before .before .before .args .v < y) (c .before .before .lookup-to .ensures) (c .if3 .taken) in
+    (ready-left _ _ _ _ (i .0) (e .if1 .left) a, sym (from-left _ _ _ _ _ (e .if1 .left) a) ∙ i .1, probe-high _ _ _ _ (i .0) (e .if1 .left))
 
 add-l : tie.Need-add-l Inv-loop μ-loop
 add-l c = omega (arith, c .before .before .before .before .loop .inv .0 .high)
@@ -67,15 +65,17 @@ loop-again-2 : tie.Need-loop-again-2 Inv-loop μ-loop
 loop-again-2 c =
     let e = c .before .before .before in
     let i = e .before .loop .inv in
-    let h : c .before .before .lookup-to .result < e .before .before .before .args .v = omega (arith, c .before .if1 .left, c .if2 .left) in
+    let h : c .before .before .lookup-to .result < e .before .before .before .args .v = omega (arith, c .before .if2 .left, c .if3 .left) in
     let b = subst (λ (y : ℕ). y < e .before .before .before .args .v) (c .before .before .lookup-to .ensures) h in
-    (ready-right _ _ _ _ (i .0) (e .loop-test .taken), sym (from-right _ _ _ _ _ (e .loop-test .taken) b) ∙ i .1, probe-high _ _ _ _ (i .0) (e .loop-test .taken))
+    (ready-right _ _ _ _ (i .0) (e .if1 .left), sym (from-right _ _ _ _ _ (e .if1 .left) b) ∙ i .1, probe-high _ _ _ _ (i .0) (e .if1 .left))
 
-cast-t14 : tie.Need-cast-t14 Inv-loop μ-loop
-cast-t14 c = omega (arith, c .before .loop .inv .2)
+returns : tie.Need-returns Inv-loop μ-loop
+returns c = sym (from-over _ _ _ _ _ (c .if1 .taken)) ∙ c .before .loop .inv .1
 
 returns-2 : tie.Need-returns-2 Inv-loop μ-loop
-returns-2 c = sym (from-over _ _ _ _ _ (c .loop-test .left)) ∙ c .before .loop .inv .1
+returns-2 c =
+    let e = c .before .before in
+    sym (from-hit _ _ _ _ _ (e .if1 .left) (sym (c .before .lookup-to .ensures) ∙ c .if2 .taken)) ∙ e .before .loop .inv .1
 
 pub search-spec : {M : Type 1} → statement M
 search-spec =
@@ -85,16 +85,16 @@ search-spec =
     μ-loop
     sub-top
     loop-holds
+    cast-t15
     add-x
     sub-p
     cast-p
     lookup-to-requires
-    returns
     sub-r
     loop-less
     loop-again
     add-l
     loop-less-2
     loop-again-2
-    cast-t14
+    returns
     returns-2)
