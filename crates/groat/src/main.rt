@@ -4,14 +4,15 @@ use crate::answers::answer;
 use groat_io::INPUT_END;
 use groat_io::State;
 use groat_io::advance;
-use groat_io::flush;
 use groat_io::opened;
 use groat_io::put_byte;
+use groat_io::settled;
 use groat_kept::bytes;
 use groat_requests::Request;
 use groat_requests::request_named;
 use groat_words::ends_line;
 use groat_words::next_line;
+use groat_words::pass_line;
 use groat_words::put_problem;
 use groat_words::read_word;
 use groat_words::skip_spaces;
@@ -47,10 +48,15 @@ fn read_request(s: State, input: &mut [u8; 65535]) -> ReadRequest {
     }
 }
 
-// The end of an answer, which is written out before more input is waited for.
 fn put_end(s: State, output: &mut [u8; 65535]) -> State {
     let told = put_problem(s, output);
-    flush(put_byte(told, output, b'\n'), output)
+    put_byte(told, output, b'\n')
+}
+
+// At the next line. What was answered is written out before the rest of this line or the next one is waited for.
+fn turn(s: State, input: &mut [u8; 65535], output: &mut [u8; 65535]) -> State {
+    let end = pass_line(settled(s, input, output), input);
+    next_line(settled(end, input, output), input)
 }
 
 // One line, up to the first byte of the next.
@@ -64,13 +70,13 @@ fn line(
 ) -> State {
     let start = skip_spaces(s, input);
     if is_silent(start.now) {
-        return next_line(start, input);
+        return turn(start, input, output);
     }
     let read = read_request(start, input);
     let here = read.s;
     let request = read.request;
     let answered = answer(request, here, input, output, table, floats, tag);
-    next_line(put_end(answered, output), input)
+    turn(put_end(answered, output), input, output)
 }
 
 // A proved loop has to end, and nothing says that the input does. So it counts its turns down from a number that no run uses up.

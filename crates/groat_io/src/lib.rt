@@ -1,5 +1,5 @@
 // Where the bench program stands, its standard input and its standard output. Input comes in byte by byte out of one buffer that is filled
-// again whenever it is used up. Output is gathered in another, and written out when that is full and wherever `flush` is called: before the
+// again whenever it is used up. Output is gathered in another, and written out when that is full and wherever `flush` or `settled` is called: before the
 // program may have to wait for input, so that nobody waits for an answer. Both have 65,535 bytes, so that how many are used is any 16-bit number.
 ghost use mathlib.Core.Path.{_≡_};
 ghost use Prim.Native.Nat.{_≤_, _<_};
@@ -150,6 +150,36 @@ pub fn flush(s: State, output: &[u8; 65535]) -> State
     let n = wide(s.waiting);
     let text: &[u8] = output;
     emptied(s, !sent(&text[0..n]))
+}
+
+fn has_line_end(text: &[u8]) -> bool {
+    let mut i = 0;
+    while i < text.len() {
+        if text[i] == b'\n' {
+            return true;
+        }
+        i += 1;
+    }
+    false
+}
+
+// Whether a line, from here on, can be read to its end without waiting for input.
+fn holds_line(s: State, input: &[u8; 65535]) -> bool {
+    if s.at >= s.held {
+        return false;
+    }
+    let text: &[u8] = input;
+    let from = wide(s.at);
+    let to = wide(s.held);
+    has_line_end(&text[from..to])
+}
+
+// With nothing waiting to be written, unless a whole line is at hand: many short lines are answered by few writes, and none waits for input.
+pub fn settled(s: State, input: &[u8; 65535], output: &[u8; 65535]) -> State {
+    if holds_line(s, input) {
+        return s;
+    }
+    flush(s, output)
 }
 
 // With room for one byte of output.

@@ -5,9 +5,9 @@ use groat_answers::put_float;
 use groat_answers::put_refused_item;
 use groat_answers::put_short;
 use groat_io::State;
-use groat_io::flush;
 use groat_io::put_byte;
 use groat_io::put_decimal;
+use groat_io::settled;
 use groat_lists::List;
 use groat_lists::fill_row;
 use groat_lists::goes_on;
@@ -333,10 +333,11 @@ fn first(row: &[u64; 1024], n: usize) -> &[u64] {
     all
 }
 
-// The answers to the first n questions of a row, which are written out before more is read.
+// The answers to the first n questions of a row, which are written out before more is waited for.
 fn answer_row(
     asked: Asked,
     s: State,
+    input: &[u8; 65535],
     output: &mut [u8; 65535],
     table: &[u16],
     floats: &[f32],
@@ -345,7 +346,7 @@ fn answer_row(
     before: usize,
 ) -> State {
     let here = put_row(asked, s, output, table, floats, first(row, n), before);
-    flush(here, output)
+    settled(here, input, output)
 }
 
 // Whether there are more questions, and anyone to answer.
@@ -389,7 +390,7 @@ fn ask_each(
         let filled = fill_row(list, here, input, place, &mut row);
         let after = filled.s;
         let n = filled.n;
-        here = answer_row(asked, after, output, table, floats, &row, n, answers);
+        here = answer_row(asked, after, input, output, table, floats, &row, n, answers);
         list = filled.list;
         answers = std::num::wrapping_add_usize(answers, n);
         turns -= 1;

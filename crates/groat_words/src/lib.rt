@@ -32,6 +32,7 @@ pub use words::last_word;
 pub use words::next_line;
 pub use words::next_word;
 pub use words::no_more_words;
+pub use words::pass_line;
 pub use words::place_among;
 pub use words::read_word;
 pub use words::skip_spaces;

@@ -54,7 +54,7 @@ pub fn no_more_words(s: State, input: &mut [u8; 65535]) -> State {
 }
 
 // At the end of the line, the rest of which is passed over.
-fn pass_line(s: State, input: &mut [u8; 65535]) -> State {
+pub fn pass_line(s: State, input: &mut [u8; 65535]) -> State {
     let mut here = s;
     let mut turns = u64::MAX;
     while turns > 0 && !ends_line(here.now) {
