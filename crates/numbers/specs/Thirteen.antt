@@ -1,7 +1,7 @@
 -- Document 01's "Numbers on both sides", in its order: each is the answer that the public promise names, and the laws `..-one` say that it names no other.
 -- Assumes nothing.
 use Prim.Native.Nat.{ℕ}
-use mathlib.Core.List.{List, [], _∷_}
+use mathlib.Core.List.{[], _∷_}
 use Rattle.table.specs.declared.Drive.{Drive}
 use Rattle.table.specs.declared.Density.{Density}
 use Rattle.table.specs.declared.Done.{Done}

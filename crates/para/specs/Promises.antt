@@ -7,7 +7,6 @@ use lib.Dec.{leb}
 use Rattle.table.specs.Refusals.{Verdict, granted, rung, numberIn, ifGranted}
 use Rattle.table.specs.declared.Refusal.the-variants.{TagLength, WrongSignature, ReservedNotZero, FunctionType}
 use Rattle.icc.specs.Opening.{reservedZero}
-use Rattle.para.specs.declared.Numbers.{Numbers}
 use Rattle.para.specs.declared.Read.{Read}
 use Rattle.para.specs.Answers.{numberOfRead, countOfRead, numbersOfRead, noNumbers}
 use Rattle.para.specs.Tag.{isPara, typeOf, typeZeros, countOf, total, numbersOf}
