@@ -2,20 +2,13 @@
 // compiler's own conversions, and `compare` holds the two side by side. The argument says how many numbers of each class.
 ghost use Prim.Native.Nat.{_≤_, _<_};
 use libc::STDOUT_FILENO;
+use patterns::double_of;
 
 // The next word of a generator that runs through every word but 0.
 fn next(w: u64) -> u64 {
     let a = w ^ (w << 13);
     let b = a ^ (a >> 7);
     b ^ (b << 17)
-}
-
-// The f64 of a pattern. Rattle makes no float of a NaN's pattern, so one NaN stands for all of them.
-fn value(bits: u64) -> f64 {
-    if bits % 0x8000_0000_0000_0000 > 0x7ff0_0000_0000_0000 {
-        return 0.0 / 0.0;
-    }
-    f64::from_bits(bits)
 }
 
 // The pattern of an f32. A NaN has no pattern of its own, so one stands for all of them.
@@ -77,11 +70,11 @@ fn raw(w: u64) -> i32 {
 
 fn rounded(class: u64, w: u64) -> f32 {
     match class {
-        0 => rounding::nearest_f64_to_f32(value(w)),
-        1 => rounding::nearest_f64_to_f32(value(tie(w))),
-        2 => rounding::nearest_f64_to_f32(value(subnormal(w))),
-        3 => rounding::nearest_f64_to_f32(value(largest(w))),
-        4 => rounding::nearest_f64_to_f32(value(special(w))),
+        0 => rounding::nearest_f64_to_f32(double_of(w)),
+        1 => rounding::nearest_f64_to_f32(double_of(tie(w))),
+        2 => rounding::nearest_f64_to_f32(double_of(subnormal(w))),
+        3 => rounding::nearest_f64_to_f32(double_of(largest(w))),
+        4 => rounding::nearest_f64_to_f32(double_of(special(w))),
         5 => rounding::s15_fixed16_number_to_float(raw(w)),
         _ => rounding::u8_fixed_8number_to_float((w % 65536) as u16),
     }
