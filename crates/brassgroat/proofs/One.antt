@@ -98,7 +98,7 @@ tables : {t′ t″ : List ℕ} → sittingOn t′ ≡ sittingOn t″ → t′ �
 tables e = ap (λ (s : Sitting). s .table) e
 
 module _ {t : List ℕ} {r s : ℕ} where
-  pub bg-start-one : {t′ t″ : List ℕ} → Carried numberOfDone (λ d. StartPromise (length t) (sittingOn t) d (sittingOn t′)) r → Carried numberOfDone (λ d. StartPromise (length t) (sittingOn t) d (sittingOn t″)) s → (r ≡ s) × (t′ ≡ t″)
+  pub bg-start-one : {t′ t″ : List ℕ} → Carried numberOfDone (λ d. StartPromise (sittingOn t) d (sittingOn t′)) r → Carried numberOfDone (λ d. StartPromise (sittingOn t) d (sittingOn t″)) s → (r ≡ s) × (t′ ≡ t″)
   bg-start-one = one-both (λ a b x y. let both = start-one x y in (both .0, tables (both .1)))
 
   pub bg-accept-one : Carried numberOfDone (λ d. AcceptPromise (sittingOn t) d (sittingOn t)) r → Carried numberOfDone (λ d. AcceptPromise (sittingOn t) d (sittingOn t)) s → r ≡ s

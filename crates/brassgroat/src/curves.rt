@@ -12,7 +12,7 @@ ghost use Rattle.brassgroat.specs.Carried.{Carried};
 
 #[no_mangle]
 pub extern "C" fn bg_start(table: &mut [u16]) -> u32
-    ensures { λ r. ⌜ Carried numberOfDone (λ d. StartPromise (length (now (table .entry))) (sittingOn (now (table .entry))) d (sittingOn (now (table .exit)))) r ⌝ }
+    ensures { λ r. ⌜ Carried numberOfDone (λ d. StartPromise (sittingOn (now (table .entry))) d (sittingOn (now (table .exit)))) r ⌝ }
 {
     number_of_done(start(table))
 }

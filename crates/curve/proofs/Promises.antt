@@ -3,7 +3,6 @@
 -- the table as it was (`start-refused`, `accept-same`). Assumes nothing.
 use mathlib.Core.Path.{_≡_, _∙_, refl, sym, ap}
 use mathlib.Core.Bool.{true}
-use Prim.Native.Nat.{ℕ}
 use lib.ListN.{length}
 use Rattle.table.specs.Sizes.{sized, spanned}
 use Rattle.table.specs.Order.{nondecreasing}
@@ -17,23 +16,23 @@ use Rattle.curve.specs.Ramp.{rampOf}
 use Rattle.curve.specs.Promises.{Sitting, sittingOn, startVerdict, StartPromise, acceptVerdict, AcceptPromise}
 
 -- Start.
-pub start-some : (n : ℕ) (s : Sitting) → StartPromise n s (doneBy (startVerdict n)) (sittingOn (ifGranted (startVerdict n) (rampOf n) (s .table)))
-start-some n s = record { number = done-number (startVerdict n); table = refl }
+pub start-some : (s : Sitting) → StartPromise s (doneBy (startVerdict s)) (sittingOn (ifGranted (startVerdict s) (rampOf (length (s .table))) (s .table)))
+start-some s = record { number = done-number (startVerdict s); table = refl }
 
-module _ {n : ℕ} {s : Sitting} where
-  pub start-one : {r q : Done} {s′ s″ : Sitting} → StartPromise n s r s′ → StartPromise n s q s″ → (r ≡ q) × (s′ ≡ s″)
+module _ {s : Sitting} where
+  pub start-one : {r q : Done} {s′ s″ : Sitting} → StartPromise s r s′ → StartPromise s q s″ → (r ≡ q) × (s′ ≡ s″)
   start-one {r} {q} a b = (same-done r q (a .number ∙ sym (b .number)), ap sittingOn (a .table ∙ sym (b .table)))
 
-  pub start-answer : {r : Done} {s′ : Sitting} → StartPromise n s r s′ → r ≡ doneBy (startVerdict n)
-  start-answer a = done-is (startVerdict n) (a .number)
+  pub start-answer : {r : Done} {s′ : Sitting} → StartPromise s r s′ → r ≡ doneBy (startVerdict s)
+  start-answer a = done-is (startVerdict s) (a .number)
 
-  pub start-granted : {s′ : Sitting} → StartPromise n s Done.Yes s′ → (spanned n ≡ true) × (s′ .table ≡ rampOf n)
+  pub start-granted : {s′ : Sitting} → StartPromise s Done.Yes s′ → (spanned (length (s .table)) ≡ true) × (s′ .table ≡ rampOf (length (s .table)))
   start-granted a =
-      let w = done-granted (startVerdict n) (a .number) in
-      (rung-granted (spanned n) TableLength granted w .0, a .table ∙ simp w)
+      let w = done-granted (startVerdict s) (a .number) in
+      (rung-granted (spanned (length (s .table))) TableLength granted w .0, a .table ∙ simp w)
 
-  pub start-refused : {why : Refusal} {s′ : Sitting} → StartPromise n s (Done.Refused why) s′ → s′ ≡ s
-  start-refused {why} a = ap sittingOn (a .table ∙ simp (done-refused (startVerdict n) why (a .number)))
+  pub start-refused : {why : Refusal} {s′ : Sitting} → StartPromise s (Done.Refused why) s′ → s′ ≡ s
+  start-refused {why} a = ap sittingOn (a .table ∙ simp (done-refused (startVerdict s) why (a .number)))
 
 -- Accept.
 pub accept-some : (s : Sitting) → AcceptPromise s (doneBy (acceptVerdict s)) s

@@ -19,13 +19,13 @@ pub record Sitting : Type 0 where
 abbrev pub sittingOn : List ℕ → Sitting
 sittingOn t = record { table = t }
 
--- Start, of n entries, the length of the lent buffer: refused for n below 2 or above 65,536, 1. The table is then the straight curve.
-abbrev pub startVerdict : ℕ → Verdict
-startVerdict n = rung (spanned n) TableLength granted
+-- Start, of as many entries as the lent table has: refused for fewer than 2 or more than 65,536, 1. The table is then the straight curve.
+abbrev pub startVerdict : Sitting → Verdict
+startVerdict s = rung (spanned (length (s .table))) TableLength granted
 
-pub record StartPromise (n : ℕ) (s : Sitting) (r : Done) (s′ : Sitting) : Type 0 where
-  pub number : numberOfDone r ≡ numberIn (startVerdict n)
-  pub table : s′ .table ≡ ifGranted (startVerdict n) (rampOf n) (s .table)
+pub record StartPromise (s : Sitting) (r : Done) (s′ : Sitting) : Type 0 where
+  pub number : numberOfDone r ≡ numberIn (startVerdict s)
+  pub table : s′ .table ≡ ifGranted (startVerdict s) (rampOf (length (s .table))) (s .table)
 
 -- Accept: refused for the table's length, 1; for a table that is not nondecreasing, 2. The table is as it was either way.
 abbrev pub acceptVerdict : Sitting → Verdict

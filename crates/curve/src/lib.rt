@@ -41,7 +41,7 @@ fn fill_ramp(table: &mut [u16])
 
 // Makes the lent table the straight curve of as many entries as it has.
 pub fn start(table: &mut [u16]) -> Done
-    ensures { λ r. ⌜ StartPromise (length (now (table .entry))) (sittingOn (now (table .entry))) r (sittingOn (now (table .exit))) ⌝ }
+    ensures { λ r. ⌜ StartPromise (sittingOn (now (table .entry))) r (sittingOn (now (table .exit))) ⌝ }
 {
     if !spanned(table.len()) {
         return Done::Refused(Refusal::TableLength);

@@ -1,50 +1,79 @@
--- Demand 3, whole: on every table that a sitting holds, the lookup and the least input obey their laws. It rests on what the lookup and the nudging layer
--- promise, and on their laws; of the lookup nothing else is known here. Assumes nothing.
+-- Demand 3, whole. It rests on what the lookup and the nudging layer promise, and on their laws; of the lookup nothing else is known here. Assumes nothing.
 use mathlib.Core.Path.{_≡_}
-use mathlib.Core.Logic.{⊎-elim}
+use mathlib.Core.Logic.{⊎-elim, _↔_}
+use mathlib.Core.Bool.{true}
 use mathlib.Core.List.{List}
 use Prim.Native.Nat.{ℕ, _≤_, _<_}
 use native.Mathlib.Omega.{arith}
-use Rattle.table.specs.declared.Density.{Density}
+use lib.ListN.{length}
+use Rattle.table.specs.Sizes.{sized}
+use Rattle.table.specs.Order.{Nondecreasing}
 use Rattle.table.specs.declared.Sought.{Sought}
 use Rattle.table.specs.declared.Refusal.the-variants.{AboveLast}
 use Rattle.table.proofs.Choice.{below?}
+use Rattle.table.proofs.Order.{fact-test}
 use Rattle.lookup.specs.Lookup.{lookedUp}
-use Rattle.nudge.proofs.Sitting.{held-size, held-test, held-in-order, sitting-throughout}
+use Rattle.lookup.specs.Demand.{LookupIn, positionOf, sampleOf, LookupObeys}
+use Rattle.lookup.proofs.LookupLaws.{sample-is, lookup-demand}
+use Rattle.curve.specs.Promises.{Sitting}
+use Rattle.nudge.specs.Calls.{Turn, Throughout, WholeSitting}
+use Rattle.nudge.proofs.Sitting.{held-size, held-order, sitting-throughout, sitting-demand}
 use Rattle.least.specs.Least.{leastOf}
 use Rattle.least.specs.Inside.{Passed}
-use Rattle.least.specs.Promises.{lastEntry, LeastPromise}
-use Rattle.least.specs.Demand.{LeastObeys, CurveObeys, Demand3}
+use Rattle.least.specs.Promises.{lastEntry}
+use Rattle.least.specs.Demand.{LeastIn, LeastObeys, LeastDemand, Demand3}
 use Rattle.least.proofs.LeastLaws.{least-exact}
-use Rattle.least.proofs.Tables.{table-obeys, table-rises, table-inside}
+use Rattle.least.proofs.Tables.{table-rises, table-inside}
 use Rattle.least.proofs.Promises.{least-found, least-above}
 
-module _ {t : List ℕ} (s : Passed t) where
-  never-above : (v : Density) (r : Sought) → LeastPromise t v r → r ≡ Sought.Refused AboveLast → lastEntry t < v .0
-  never-above v r a e = ⊎-elim (λ l. l) reached (below? (lastEntry t) (v .0))
+module _ (t : List ℕ) (size : sized (length t) ≡ true) (order : Nondecreasing t) where
+  passed : Passed t
+  passed = record { size = size; order = fact-test t order }
+
+  never-above : (m : LeastIn t) → m .answer ≡ Sought.Refused AboveLast → lastEntry t < m .value .0
+  never-above m e = ⊎-elim (λ l. l) reached (below? (lastEntry t) (m .value .0))
     where
-      reached : v .0 ≤ lastEntry t → lastEntry t < v .0
+      reached : m .value .0 ≤ lastEntry t → lastEntry t < m .value .0
       reached h =
-          let f : r ≡ Sought.At (record { 0 = leastOf (lookedUp t) (v .0) }) = least-found s h a in
+          let f : m .answer ≡ Sought.At (record { 0 = leastOf (lookedUp t) (m .value .0) }) = least-found passed h (m .kept) in
           let z : _≡_ {A = ℕ} 0 1 = cc in
           absurd (omega arith)
 
-  pub least-obeys : LeastObeys t
-  least-obeys = record {
-    refused = λ v r a. (never-above v r a, (λ h. least-above s h a));
-    found =
-        λ v r a h.
+  exact : (v : ℕ) (l : LookupIn t) → (v ≤ sampleOf l) ↔ (leastOf (lookedUp t) v ≤ positionOf l)
+  exact v l =
+      let e = least-exact (lookedUp t) v (table-rises passed) (positionOf l) (l .bits) in
+      let s = sample-is t size order l in
+      ((λ r. e .0 (omega arith)), (λ r. omega (arith, e .1 r)))
+
+  obeys : LeastObeys t
+  obeys = record {
+    refused = λ m. (never-above m, (λ h. least-above passed h (m .kept)));
+    least =
+        λ m h.
         record {
-          position = record { 0 = leastOf (lookedUp t) (v .0) };
-          answer = least-found s h a;
-          inside = table-inside s (v .0) h;
-          exact = least-exact (lookedUp t) (v .0) (table-rises s);
+          position = record { 0 = leastOf (lookedUp t) (m .value .0) };
+          found = least-found passed h (m .kept);
+          bits = table-inside passed (m .value .0) h;
+          exact = exact (m .value .0);
         };
   }
 
+pub least-demand : LeastDemand
+least-demand = obeys
+
 pub demand-3 : Demand3
-demand-3 lent opening nudges w =
-    sitting-throughout w (CurveObeys (opening .after))
-    (λ s h e.
-    let ok : Passed (s .table) = record { size = held-size h; order = held-test h } in
-    record { in-order = held-in-order h e; lookup = table-obeys ok; least = least-obeys ok })
+demand-3 = record { sitting = sitting-demand; lookup = lookup-demand; least = least-demand }
+
+-- So both obey on the table that any sitting holds.
+pub record CurveObeys (s : Sitting) : Type 0 where
+  pub lookup : LookupObeys (s .table)
+  pub least : LeastObeys (s .table)
+
+pub sitting-obeys : {lent : Sitting} {opening : Turn} {turns : List Turn} → WholeSitting lent opening turns → Throughout CurveObeys (opening .after) turns
+sitting-obeys w =
+    sitting-throughout w CurveObeys
+    (λ s h _.
+    record {
+      lookup = lookup-demand (s .table) (held-size h) (held-order h);
+      least = least-demand (s .table) (held-size h) (held-order h);
+    })

@@ -4,11 +4,11 @@ use mathlib.Core.List.{List}
 use Prim.Native.Nat.{ℕ, _-_, _≤_, zero-le}
 use native.Mathlib.Omega.{arith}
 use lib.ListN.{length, getD}
+use Rattle.table.specs.Order.{Nondecreasing}
 use Rattle.table.proofs.Sizes.{within-high}
 use Rattle.table.proofs.Order.{test-fact}
 use Rattle.lookup.specs.Lookup.{lookedUp}
-use Rattle.lookup.specs.Demand.{LookupObeys}
-use Rattle.lookup.proofs.LookupLaws.{lookup-obeys}
+use Rattle.lookup.proofs.LookupLaws.{looked-up-rises, looked-up-first, looked-up-last}
 use Rattle.least.specs.Least.{leastOf, NeverFalls}
 use Rattle.least.specs.Inside.{Passed, Searchable}
 use Rattle.least.specs.Promises.{lastEntry}
@@ -28,23 +28,17 @@ module _ {t : List ℕ} {top : ℕ} (s : Searchable t top) where
   searchable-rises i j ij h = test-fact t (s .passed .order) i j ij (omega arith)
 
 module _ {t : List ℕ} (s : Passed t) where
-  pub table-obeys : LookupObeys t
-  table-obeys = lookup-obeys t (s .size) (test-fact t (s .order))
+  pub table-order : Nondecreasing t
+  table-order = test-fact t (s .order)
 
   pub table-rises : NeverFalls (lookedUp t)
-  table-rises = table-obeys .never-falls
-
-  pub table-begins : lookedUp t 0 ≡ getD t 0 0
-  table-begins = table-obeys .first
-
-  pub table-ends : lookedUp t 65535 ≡ lastEntry t
-  table-ends = table-obeys .last
+  table-rises = looked-up-rises t (s .size) table-order
 
   -- so a value that is not above the last entry has a least input
   pub table-inside : (v : ℕ) → v ≤ lastEntry t → leastOf (lookedUp t) v ≤ 65535
-  table-inside v h = least-inside (lookedUp t) v table-rises (omega (arith, table-ends))
+  table-inside v h = least-inside (lookedUp t) v table-rises (omega (arith, looked-up-last t))
 
   -- and position 0 is that of a value not above the first
   pub table-first : (v : ℕ) → v ≤ getD t 0 0 → leastOf (lookedUp t) v ≡ 0
   table-first v h =
-      least-at (lookedUp t) v table-rises 0 zero-le (omega (arith, table-begins)) (λ q e. absurd (omega arith))
+      least-at (lookedUp t) v table-rises 0 zero-le (omega (arith, looked-up-first t)) (λ q e. absurd (omega arith))

@@ -3,28 +3,25 @@
 use mathlib.Core.Path.{_≡_, refl, sym, ap}
 use mathlib.Core.Logic.{⊎-elim}
 use mathlib.Core.List.{List, [], _∷_}
-use Prim.Native.Nat.{ℕ, zero, suc, _+_, _-_, _*_, _≤_, _<_, zero-le}
+use Prim.Native.Nat.{ℕ, suc, _+_, _-_, _*_, _≤_, _<_, zero-le}
 use native.Mathlib.Omega.{arith}
 use lib.ListN.{length, getD}
 use lib.Dec.{lit<, lit≤}
 use Rattle.table.specs.Sizes.{within}
-use Rattle.table.specs.Order.{SixteenBits}
 use Rattle.table.specs.declared.Density.{Density}
-use Rattle.table.specs.declared.Done.{Done}
 use Rattle.table.specs.declared.Sought.{Sought}
 use Rattle.table.specs.declared.Refusal.the-variants.{TableLength, NotNondecreasing, AboveLast}
 use Rattle.table.proofs.Choice.{below?}
-use Rattle.lookup.specs.Lookup.{steps, entriesOf, lookedUp}
+use Rattle.lookup.specs.Lookup.{lookedUp}
 use Rattle.lookup.proofs.LookupLaws.{lookup-reaches}
 use Rattle.curve.specs.Promises.{sittingOn}
-use Rattle.nudge.specs.Calls.{accept, Throughout}
-use Rattle.nudge.proofs.Sitting.{Asked, turnsOf, accept-begins, every-list-goes}
+use Rattle.nudge.specs.Calls.{Call, nudge, Throughout}
+use Rattle.nudge.proofs.Sitting.{turnsOf, accept-begins, every-list-goes}
 use Rattle.least.specs.Least.{leastOf}
 use Rattle.least.specs.Inside.{Passed}
 use Rattle.least.specs.Promises.{LeastPromise}
-use Rattle.least.specs.Demand.{CurveObeys}
 use Rattle.least.proofs.LeastLaws.{least-at}
-use Rattle.least.proofs.Demand.{demand-3}
+use Rattle.least.proofs.Demand.{CurveObeys, sitting-obeys}
 use Rattle.least.proofs.Tables.{table-rises}
 
 density : ℕ → Density
@@ -34,13 +31,13 @@ at : ℕ → Sought
 at p = Sought.At (record { 0 = p })
 
 -- c entries passed and k steps towards the next: whether the lookup there is at least v, by the two entries
-module _ (t : List ℕ) (p v c k : ℕ) (e : steps (length t) p ≡ c * 65535 + k) (h : k ≤ 65535) where
+module _ (t : List ℕ) (p v c k : ℕ) (e : p * (length t - 1) ≡ c * 65535 + k) (h : k ≤ 65535) where
   reached : v * 65535 ≤ getD t (c + 1) 0 * k + getD t c 0 * (65535 - k) → v ≤ lookedUp t p
-  reached r = lookup-reaches (entriesOf t) (length t) p v c k e h .1 r
+  reached r = lookup-reaches t p v c k e h .1 r
 
   missed : getD t (c + 1) 0 * k + getD t c 0 * (65535 - k) < v * 65535 → lookedUp t p < v
   missed l =
-      ⊎-elim (λ m. m) (λ r. absurd (omega (arith, lookup-reaches (entriesOf t) (length t) p v c k e h .0 r)))
+      ⊎-elim (λ m. m) (λ r. absurd (omega (arith, lookup-reaches t p v c k e h .0 r)))
       (below? (lookedUp t p) v)
 
 -- where the lookup is below v at q and at least v at the next position, that one is the least input
@@ -119,18 +116,9 @@ unfolding within density
 least-falling = record { number = refl; value = refl }
 
 -- Demand 3 of one sitting: the table accepted, and its middle entry nudged to 200.
-bent-bits : SixteenBits bent
-unfolding bent
-bent-bits zero = lit< tt
-bent-bits (suc zero) = lit< tt
-bent-bits (suc (suc zero)) = lit< tt
-bent-bits (suc (suc (suc i))) = lit< tt
-
-asked : List Asked
+calls : List Call
 unfolding density
-asked = record { index = 1; value = density 200; fits = lit< tt } ∷ []
+calls = nudge 1 (density 200) ∷ []
 
-sitting : Throughout (CurveObeys (sittingOn bent)) (sittingOn bent) (turnsOf (sittingOn bent) asked)
-sitting =
-    demand-3 (sittingOn bent) (record { call = accept; answer = Done.Yes; after = sittingOn bent }) (turnsOf (sittingOn bent) asked)
-    (every-list-goes (accept-begins (sittingOn bent) bent-bits (bent-ok .size) (bent-ok .order)) asked)
+sitting : Throughout CurveObeys (sittingOn bent) (turnsOf (sittingOn bent) calls)
+sitting = sitting-obeys (every-list-goes (accept-begins (sittingOn bent) (bent-ok .size) (bent-ok .order)) calls)

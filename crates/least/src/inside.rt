@@ -1,5 +1,5 @@
 // The search for a least input in a table that has passed its tests: no door of the library, since each asks something of its caller.
-use lookup::inside::div_ceil;
+use table::inside::div_ceil;
 use table::inside::entry;
 use table::inside::wide;
 ghost use mathlib.Core.Path.{_≡_};

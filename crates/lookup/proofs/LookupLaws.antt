@@ -6,17 +6,20 @@ use mathlib.Core.Logic.{_↔_}
 use mathlib.Core.Bool.{true}
 use mathlib.Core.List.{List}
 use Prim.Native.Nat.{ℕ, _+_, _-_, _*_, _/_, _≤_, _<_, min, max}
-use native.Mathlib.Nat.{le-of-suc-le-suc, mul-comm, mul-div-cancel, mul-mod-left, div-le-of-le-mul, le-div-iff-mul-le, min-le-left, min-le-right, le-max-left, le-max-right}
+use native.Mathlib.Nat.{le-trans, le-of-suc-le-suc, mul-comm, mul-div-cancel, mul-mod-left, div-le-of-le-mul, le-div-iff-mul-le, min-le-left, min-le-right, le-max-left, le-max-right}
 use native.Mathlib.Omega.{arith}
 use lib.ListN.{length, getD}
 use lib.Dec.{lit<}
 use Rattle.table.specs.Sizes.{sized}
 use Rattle.table.specs.Order.{Nondecreasing, SixteenBits}
+use Rattle.table.specs.Answers.{numberOfLooked, valueOfLooked}
 use Rattle.table.proofs.Sizes.{within-low}
-use Rattle.lookup.specs.Demand.{LookupObeys}
+use Rattle.table.proofs.Quotient.{ceil-le-iff}
+use Rattle.lookup.specs.Demand.{LookupIn, positionOf, sampleOf, LookupObeys, LookupDemand}
 use Rattle.lookup.specs.Lookup.{lower, upper, weighted, steps, lookup16, entriesOf, lookedUp}
-use Rattle.lookup.proofs.Steps.{steps-le}
+use Rattle.lookup.proofs.Steps.{steps-le, lower-lt}
 use Rattle.lookup.proofs.Sum.{Rises, div-mono, sum-same, sum-on-entry, sum-steps, sum-at-most, sum-at-least, sum-first, sum-last, lower-le-sum, sum-le-upper, sum-rises}
+use Rattle.lookup.proofs.Promises.{lookup-granted}
 
 cap>0 : 0 < 65535
 cap>0 = lit< tt
@@ -53,10 +56,10 @@ module _ (T : ℕ → ℕ) (n : ℕ) where
   lookup-last = ap (λ (s : ℕ). s / 65535) (sum-last 65535 T cap>0 n) ∙ mul-div-cancel (T (n - 1)) cap>0
 
 -- c entries passed and k of 65535 steps towards the next, up to that one itself: the lookup is at least m exactly if the two entries, so weighed, are
-pub lookup-reaches : (T : ℕ → ℕ) (n p m c k : ℕ) → steps n p ≡ c * 65535 + k → k ≤ 65535 → (m ≤ lookup16 T n p) ↔ (m * 65535 ≤ T (c + 1) * k + T c * (65535 - k))
+pub lookup-reaches : (t : List ℕ) (p m c k : ℕ) → p * (length t - 1) ≡ c * 65535 + k → k ≤ 65535 → (m ≤ lookedUp t p) ↔ (m * 65535 ≤ getD t (c + 1) 0 * k + getD t c 0 * (65535 - k))
 unfolding lookup16
-lookup-reaches T n p m c k e h =
-    let s : weighted 65535 T (steps n p) ≡ T (c + 1) * k + T c * (65535 - k) = ap (weighted 65535 T) e ∙ sum-steps 65535 T cap>0 c k h in
+lookup-reaches t p m c k e h =
+    let s : weighted 65535 (entriesOf t) (steps (length t) p) ≡ getD t (c + 1) 0 * k + getD t c 0 * (65535 - k) = ap (weighted 65535 (entriesOf t)) e ∙ sum-steps 65535 (entriesOf t) cap>0 c k h in
     ((λ r. subst (λ (x : ℕ). m * 65535 ≤ x) s (le-div-iff-mul-le cap>0 .0 r)), (λ r. le-div-iff-mul-le cap>0 .1 (subst (λ (x : ℕ). m * 65535 ≤ x) (sym s) r)))
 
 -- from the sum at p times the last index
@@ -94,18 +97,56 @@ module _ (T : ℕ → ℕ) (n : ℕ) (some : 0 < n) (R : Rises n T) where
   unfolding lookup16
   lookup-never-falls p q pq h = div-mono cap>0 (sum-rises 65535 n T cap>0 some R p q pq h)
 
+-- exact at both ends of a table
+pub looked-up-first : (t : List ℕ) → lookedUp t 0 ≡ getD t 0 0
+looked-up-first t = lookup-first (entriesOf t) (length t)
+
+pub looked-up-last : (t : List ℕ) → lookedUp t 65535 ≡ getD t (length t - 1) 0
+looked-up-last t = lookup-last (entriesOf t) (length t)
+
 -- in a table of 16-bit entries the answer is 16 bits wide
 pub looked-up-fits : (t : List ℕ) → SixteenBits t → (p : ℕ) → lookedUp t p ≤ 65535
 looked-up-fits t b p = lookup-at-most (entriesOf t) (length t) p 65535 (le-of-suc-le-suc (b _)) (le-of-suc-le-suc (b _))
 
--- demand 3's part on the lookup
-pub lookup-obeys : (t : List ℕ) → sized (length t) ≡ true → Nondecreasing t → LookupObeys t
-lookup-obeys t h R =
-    let some = within-low 1 65536 (length t) h in
-    record {
-      never-falls = lookup-never-falls (entriesOf t) (length t) some R;
-      not-below = lower-le-lookup (entriesOf t) (length t) some R;
-      not-above = lookup-le-upper (entriesOf t) (length t) some R;
-      first = lookup-first (entriesOf t) (length t);
-      last = lookup-last (entriesOf t) (length t);
-    }
+-- What holds of every table that demand 3 speaks of, position by position.
+module _ (t : List ℕ) (size : sized (length t) ≡ true) (R : Nondecreasing t) where
+  some : 0 < length t
+  some = within-low 1 65536 (length t) size
+
+  pub looked-up-rises : (p q : ℕ) → p ≤ q → q ≤ 65535 → lookedUp t p ≤ lookedUp t q
+  looked-up-rises = lookup-never-falls (entriesOf t) (length t) some R
+
+  -- past entry c the lookup is at least that entry, and before it at most that
+  pub passed-le-lookup : (p c : ℕ) → p ≤ 65535 → c * 65535 ≤ p * (length t - 1) → getD t c 0 ≤ lookedUp t p
+  passed-le-lookup p c h l =
+      let v = steps (length t) p in
+      le-trans
+      (R c (lower 65535 v) (le-div-iff-mul-le cap>0 .1 l) (lower-lt 65535 (length t) v cap>0 some (steps-le (length t) h)))
+      (lower-le-lookup (entriesOf t) (length t) some R p h)
+
+  pub lookup-le-coming : (p c : ℕ) → p ≤ 65535 → c < length t → p * (length t - 1) ≤ c * 65535 → lookedUp t p ≤ getD t c 0
+  lookup-le-coming p c h inside l =
+      let v = steps (length t) p in
+      le-trans (lookup-le-upper (entriesOf t) (length t) some R p h)
+      (R (upper 65535 v) c (ceil-le-iff v 65535 c cap>0 .1 l) inside)
+
+  -- an answer that keeps the promise holds that lookup
+  pub sample-is : (l : LookupIn t) → sampleOf l ≡ lookedUp t (positionOf l)
+  sample-is l = ap valueOfLooked (lookup-granted size (l .kept))
+
+  obeys : LookupObeys t
+  obeys = record {
+    granted = λ l. ap numberOfLooked (lookup-granted size (l .kept));
+    never-falls =
+        λ l m le.
+        omega (arith, sample-is l, sample-is m, looked-up-rises (positionOf l) (positionOf m) le (m .bits));
+    not-below =
+        λ l. omega (arith, sample-is l, lower-le-lookup (entriesOf t) (length t) some R (positionOf l) (l .bits));
+    not-above =
+        λ l. omega (arith, sample-is l, lookup-le-upper (entriesOf t) (length t) some R (positionOf l) (l .bits));
+    first = λ l e. sample-is l ∙ ap (lookedUp t) e ∙ looked-up-first t;
+    last = λ l e. sample-is l ∙ ap (lookedUp t) e ∙ looked-up-last t;
+  }
+
+pub lookup-demand : LookupDemand
+lookup-demand = obeys

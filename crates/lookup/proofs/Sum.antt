@@ -6,9 +6,10 @@ use mathlib.Core.Logic.{⊎-elim}
 use Prim.Native.Nat.{ℕ, _+_, _-_, _*_, _/_, _%_, _≤_, _<_}
 use native.Mathlib.Nat.{le-refl, le-trans, le-of-eq, le-of-lt, mul-zero, zero-mul, zero-add, sub-zero, div-add-mod', div-mul-le-self, mod-lt, eq-zero-or-pos, eq-or-lt-of-le, le-div-iff-mul-le, zero-div, zero-mod, mul-mod-right, mul-div-right, mul-le-mul-right, mul-add-div-right, mul-add-mod-self-right, div-eq-of-lt, mod-eq-of-lt, mod-self, div-self, sub-self, add-zero}
 use native.Mathlib.Omega.{arith}
+use Rattle.table.proofs.Quotient.{ceil-off, ceil-le, div-le-ceil}
 use Rattle.lookup.specs.Lookup.{lower, rest, upper, weighted, steps}
 use Rattle.lookup.proofs.Weigh.{sum-le, le-sum, sum-mono}
-use Rattle.lookup.proofs.Steps.{upper-off, upper-le, lower-le-upper, steps-le, steps-mono, lower-lt, upper-lt}
+use Rattle.lookup.proofs.Steps.{steps-le, steps-mono, lower-lt, upper-lt}
 
 -- n entries of which no later one is below an earlier: of a table's entries, that it is nondecreasing
 abbrev pub Rises : ℕ → (ℕ → ℕ) → Type 0
@@ -61,7 +62,7 @@ plain cap T v = ⊎-elim none some (eq-zero-or-pos (v % cap))
     none e = rw e (mul-zero _ ∙ sym (mul-zero _))
 
     some : 0 < v % cap → T (upper cap v) * rest cap v ≡ T (lower cap v + 1) * rest cap v
-    some h = ap (λ (i : ℕ). T i * rest cap v) (upper-off cap v h)
+    some h = ap (λ (i : ℕ). T i * rest cap v) (ceil-off v cap h)
 
 -- c entries passed and k of cap steps towards the next, up to that one itself: the two entries, so weighed
 module _ (cap : ℕ) (T : ℕ → ℕ) (pos : 0 < cap) (c k : ℕ) where
@@ -87,7 +88,7 @@ module _ (cap : ℕ) (T : ℕ → ℕ) (pos : 0 < cap) (c k : ℕ) where
 
 module _ (cap n : ℕ) (T : ℕ → ℕ) (pos : 0 < cap) (some : 0 < n) (R : Rises n T) where
   ordered : (v : ℕ) → v ≤ (n - 1) * cap → T (lower cap v) ≤ T (upper cap v)
-  ordered v h = R (lower cap v) (upper cap v) (lower-le-upper cap v) (upper-lt cap n v pos some h)
+  ordered v h = R (lower cap v) (upper cap v) (div-le-ceil v cap) (upper-lt cap n v pos some h)
 
   pub lower-le-sum : (v : ℕ) → v ≤ (n - 1) * cap → T (lower cap v) * cap ≤ weighted cap T v
   lower-le-sum v h = sum-at-least cap T pos (T (lower cap v)) v (le-refl _) (ordered v h)
@@ -99,7 +100,7 @@ module _ (cap n : ℕ) (T : ℕ → ℕ) (pos : 0 < cap) (some : 0 < n) (R : Ris
   within : (v w : ℕ) → w ≤ (n - 1) * cap → v / cap ≡ w / cap → v % cap ≤ w % cap → 0 < w % cap → weighted cap T v ≤ weighted cap T w
   unfolding weighted
   within v w h e kj p =
-      let up : T (w / cap) ≤ T (w / cap + 1) = rw (upper-off cap w p) at (ordered w h) in
+      let up : T (w / cap) ≤ T (w / cap + 1) = rw (ceil-off w cap p) at (ordered w h) in
       omega (
         arith,
         plain cap T v,
@@ -125,7 +126,7 @@ module _ (cap n : ℕ) (T : ℕ → ℕ) (pos : 0 < cap) (some : 0 < n) (R : Ris
       apart l =
           le-trans (sum-le-upper v (le-trans vw h))
           (le-trans
-          (mul-le-mul-right cap (R (upper cap v) (lower cap w) (upper-le cap v l) (lower-lt cap n w pos some h)))
+          (mul-le-mul-right cap (R (upper cap v) (lower cap w) (ceil-le v cap l) (lower-lt cap n w pos some h)))
           (lower-le-sum w h))
 
   -- nor as the position of 0..cap rises

@@ -1,16 +1,43 @@
--- What the box demands of the 16-bit lookup on every nondecreasing table of 1 to 65,536 entries. Assumes nothing.
+-- Demand 3's part on the 16-bit lookup: on every nondecreasing table of 1 to 65,536 entries, whatever keeps the lookup's promise obeys these laws.
+-- Assumes nothing.
 use Prim.Native.Nat.{ℕ, _-_, _≤_}
 use mathlib.Core.Path.{_≡_}
+use mathlib.Core.Bool.{true}
 use mathlib.Core.List.{List}
 use lib.ListN.{length, getD}
-use Rattle.lookup.specs.Lookup.{lower, upper, steps, lookedUp}
+use Rattle.table.specs.Sizes.{sized}
+use Rattle.table.specs.Order.{Nondecreasing}
+use Rattle.table.specs.Answers.{numberOfLooked, valueOfLooked}
+use Rattle.table.specs.declared.Drive.{Drive}
+use Rattle.table.specs.declared.Looked.{Looked}
+use Rattle.lookup.specs.Lookup.{lower, upper, steps}
+use Rattle.lookup.specs.Promises.{LookupPromise}
+
+-- a lookup in t: a 16-bit position, and any answer that keeps the promise there
+pub record LookupIn (t : List ℕ) : Type 0 where
+  pub position : Drive
+  pub answer : Looked
+  pub bits : position .0 ≤ 65535
+  pub kept : LookupPromise t position answer
+
+module _ {t : List ℕ} (l : LookupIn t) where
+  abbrev pub positionOf : ℕ
+  positionOf = l .position .0
+
+  abbrev pub sampleOf : ℕ
+  sampleOf = valueOfLooked (l .answer)
 
 pub record LookupObeys (t : List ℕ) : Type 0 where
+  -- it is never refused
+  pub granted : (l : LookupIn t) → numberOfLooked (l .answer) ≡ 0
   -- it never falls as the position rises
-  pub never-falls : (p q : ℕ) → p ≤ q → q ≤ 65535 → lookedUp t p ≤ lookedUp t q
+  pub never-falls : (l m : LookupIn t) → positionOf l ≤ positionOf m → sampleOf l ≤ sampleOf m
   -- it lies between its bracketing entries
-  pub not-below : (p : ℕ) → p ≤ 65535 → getD t (lower 65535 (steps (length t) p)) 0 ≤ lookedUp t p
-  pub not-above : (p : ℕ) → p ≤ 65535 → lookedUp t p ≤ getD t (upper 65535 (steps (length t) p)) 0
+  pub not-below : (l : LookupIn t) → getD t (lower 65535 (steps (length t) (positionOf l))) 0 ≤ sampleOf l
+  pub not-above : (l : LookupIn t) → sampleOf l ≤ getD t (upper 65535 (steps (length t) (positionOf l))) 0
   -- and it is exact at both ends
-  pub first : lookedUp t 0 ≡ getD t 0 0
-  pub last : lookedUp t 65535 ≡ getD t (length t - 1) 0
+  pub first : (l : LookupIn t) → positionOf l ≡ 0 → sampleOf l ≡ getD t 0 0
+  pub last : (l : LookupIn t) → positionOf l ≡ 65535 → sampleOf l ≡ getD t (length t - 1) 0
+
+abbrev pub LookupDemand : Type 0
+LookupDemand = (t : List ℕ) → sized (length t) ≡ true → Nondecreasing t → LookupObeys t

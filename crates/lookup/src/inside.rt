@@ -1,4 +1,5 @@
 // The lookups' inner steps, over the divisor cap: no door of the library, since each asks something of its caller.
+use table::inside::div_ceil;
 use table::inside::entry;
 use table::inside::wide;
 ghost use mathlib.Core.Path.{_≡_};
@@ -7,18 +8,7 @@ ghost use Prim.Native.Nat.{_+_, _-_, _*_, _≤_, _<_};
 ghost use lib.ListN.{length};
 ghost use Rattle.table.specs.Sizes.{sized};
 ghost use Rattle.lookup.specs.Inside.{StepsFit};
-ghost use Rattle.lookup.specs.Lookup.{upper, weighted, entriesOf, lookedUp};
-
-// The quotient rounded up, by the Rust's own steps.
-pub fn div_ceil(value: usize, cap: usize) -> usize
-    requires { ⌜ (0 < cap) × (value ≤ 65535 * 65536) ⌝ }
-    ensures { λ r. ⌜ r ≡ upper cap value ⌝ }
-{
-    if 0 < value % cap {
-        return value / cap + 1;
-    }
-    value / cap
-}
+ghost use Rattle.lookup.specs.Lookup.{weighted, entriesOf, lookedUp};
 
 // Two entries weighed by how near each is, `interp` of cap steps after the lower one.
 fn mix(hi: usize, lo: usize, interp: usize, cap: usize) -> usize

@@ -1,11 +1,10 @@
 -- Worked examples: each refusal and its order, and one whole sitting with a granted and a refused nudge. Assumes nothing.
 use mathlib.Core.Path.{_≡_, refl}
 use mathlib.Core.List.{List, [], _∷_}
-use Prim.Native.Nat.{ℕ, zero, suc}
+use Prim.Native.Nat.{ℕ}
 use lib.ListN.{length}
-use lib.Dec.{lit<}
 use Rattle.table.specs.Sizes.{within}
-use Rattle.table.specs.Order.{SixteenBits, notBelowLeft, notAboveRight}
+use Rattle.table.specs.Order.{notBelowLeft, notAboveRight}
 use Rattle.table.specs.Fill.{tabulated}
 use Rattle.table.specs.declared.Density.{Density}
 use Rattle.table.specs.declared.Done.{Done}
@@ -15,7 +14,7 @@ use Rattle.curve.specs.Promises.{Sitting, sittingOn}
 use Rattle.nudge.specs.Promises.{NudgePromise}
 use Rattle.nudge.specs.Calls.{Turn, start, nudge, Throughout, WholeSitting}
 use Rattle.nudge.specs.Demand.{InOrder}
-use Rattle.nudge.proofs.Sitting.{sitting-keeps-order}
+use Rattle.nudge.proofs.Sitting.{sitting-demand}
 
 density : ℕ → Density
 density n = record { 0 = n }
@@ -63,7 +62,7 @@ lent : Sitting
 lent = sittingOn (7 ∷ 7 ∷ 7 ∷ [])
 
 opening : Turn
-opening = record { call = start 3; answer = Done.Yes; after = straight }
+opening = record { call = start; answer = Done.Yes; after = straight }
 
 nudges : List Turn
 nudges =
@@ -71,22 +70,13 @@ nudges =
     ∷ record { call = nudge 0 (density 101); answer = Done.Refused OutsideNeighbours; after = bent }
     ∷ []
 
-lent-bits : SixteenBits (lent .table)
-unfolding lent
-lent-bits zero = lit< tt
-lent-bits (suc zero) = lit< tt
-lent-bits (suc (suc zero)) = lit< tt
-lent-bits (suc (suc (suc i))) = lit< tt
-
 whole : WholeSitting lent opening nudges
 unfolding within ramp tabulated lent straight opening nudges density
 whole = record {
-  bits = lent-bits;
   opened = refl;
   granted = refl;
-  nudging = (refl, (refl, tt));
-  run = (record { number = refl; table = refl }, ((lit< tt, nudge-granted), ((lit< tt, nudge-above-right), tt)));
+  run = (record { number = refl; table = refl }, (nudge-granted, (nudge-above-right, tt)));
 }
 
-whole-in-order : Throughout (InOrder (opening .after)) (opening .after) nudges
-whole-in-order = sitting-keeps-order lent opening nudges whole
+whole-in-order : Throughout (InOrder lent) (opening .after) nudges
+whole-in-order = sitting-demand lent opening nudges whole

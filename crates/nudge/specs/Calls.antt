@@ -1,10 +1,9 @@
 -- A sitting as it goes: one call after the other, each with its answer and what it leaves. Only the promises are cited, so whatever keeps them has such sittings.
 -- Assumes nothing.
-use Prim.Native.Nat.{ℕ, _<_}
+use Prim.Native.Nat.{ℕ}
 use mathlib.Core.Path.{_≡_}
 use mathlib.Core.Bool.{Bool, true, false}
 use mathlib.Core.List.{List, [], _∷_}
-use Rattle.table.specs.Order.{SixteenBits}
 use Rattle.table.specs.declared.Density.{Density}
 use Rattle.table.specs.declared.Done.{Done}
 use Rattle.curve.specs.Promises.{Sitting, StartPromise, AcceptPromise}
@@ -12,15 +11,15 @@ use Rattle.nudge.specs.Promises.{NudgePromise}
 
 -- a call, with what it is given
 pub data Call : Type 0 where
-  start : ℕ → Call
+  start : Call
   accept : Call
   nudge : ℕ → Density → Call
 
--- a call does what it promises; a sample is 16 bits wide, as its type in the code says
+-- a call does what it promises
 abbrev pub Step : Sitting → Call → Done → Sitting → Type 0
-Step s (start n) r s′ = StartPromise n s r s′
+Step s start r s′ = StartPromise s r s′
 Step s accept r s′ = AcceptPromise s r s′
-Step s (nudge i v) r s′ = (v .0 < 65536) × NudgePromise s i v r s′
+Step s (nudge i v) r s′ = NudgePromise s i v r s′
 
 -- one turn: a call, its answer, and the sitting after it
 pub record Turn : Type 0 where
@@ -40,23 +39,12 @@ Throughout P s (t ∷ turns) = P s × Throughout P (t .after) turns
 
 -- the calls that a sitting may begin with
 abbrev pub opens : Call → Bool
-opens (start n) = true
+opens start = true
 opens accept = true
 opens (nudge i v) = false
 
-abbrev pub isNudge : Call → Bool
-isNudge (start n) = false
-isNudge accept = false
-isNudge (nudge i v) = true
-
-abbrev pub AllNudges : List Turn → Type 0
-AllNudges [] = Unit {0}
-AllNudges (t ∷ turns) = (isNudge (t .call) ≡ true) × AllNudges turns
-
--- A whole sitting on a lent table, whose entries are 16 bits wide as its type says: a granted start or accept, and then nudges, granted or refused.
-pub record WholeSitting (lent : Sitting) (opening : Turn) (nudges : List Turn) : Type 0 where
-  pub bits : SixteenBits (lent .table)
+-- A whole sitting on a lent table: a granted start or accept, and then calls, granted or refused. In the box they are nudges.
+pub record WholeSitting (lent : Sitting) (opening : Turn) (turns : List Turn) : Type 0 where
   pub opened : opens (opening .call) ≡ true
   pub granted : opening .answer ≡ Done.Yes
-  pub nudging : AllNudges nudges
-  pub run : Run lent (opening ∷ nudges)
+  pub run : Run lent (opening ∷ turns)

@@ -4,4 +4,5 @@ pub mod Refusals
 pub mod Answers
 pub mod Sizes
 pub mod Order
+pub mod Quotient
 pub mod Fill

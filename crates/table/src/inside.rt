@@ -3,6 +3,7 @@ ghost use mathlib.Core.Path.{_≡_};
 ghost use Prim.Native.Nat.{_≤_, _<_};
 ghost use lib.ListN.{length, getD};
 ghost use Rattle.table.specs.Order.{notBelowLeft, notAboveRight, suits};
+ghost use Rattle.table.specs.Quotient.{divCeil};
 
 // A 16-bit number at the width of an index, so that sums and products of it do not wrap.
 pub fn wide(x: u16) -> usize
@@ -17,6 +18,17 @@ pub fn entry(table: &[u16], i: usize) -> usize
     ensures { λ r. ⌜ (r ≡ getD (now (table .entry)) i 0) × (r ≤ 65535) ⌝ }
 {
     wide(table[i])
+}
+
+// The quotient rounded up, by the Rust's own steps.
+pub fn div_ceil(value: usize, cap: usize) -> usize
+    requires { ⌜ 0 < cap ⌝ }
+    ensures { λ r. ⌜ r ≡ divCeil value cap ⌝ }
+{
+    if 0 < value % cap {
+        return value / cap + 1;
+    }
+    value / cap
 }
 
 // Whether x in place of entry i is not below the entry to its left, where there is one.

@@ -4,7 +4,7 @@ use Prim.Native.Nat.{ℕ, _+_, _*_, _≤_}
 use native.Mathlib.Omega.{arith}
 use borrow.Author.Needs.{needs}
 use denote.Ref.{now}
-use Rattle.lookup.specs.Lookup.{upper}
+use Rattle.table.specs.Quotient.{divCeil}
 use Rattle.least.proofs.Cell.{cellSteps, steps-read, steps-small, cell-inside, cell-least}
 use Rattle.least.proofs.Tables.{searchable-few}
 use Rattle.least.proofs.inside.in_cell.Statement.{statement}
@@ -52,12 +52,12 @@ add-div-ceil : tie.Need-add-div-ceil
 add-div-ceil c = omega (arith, small c)
 
 div-ceil-requires-2 : tie.Need-div-ceil-requires-2
-div-ceil-requires-2 c κs = omega (arith, small c, searchable-few (c .before .before .before .before .before .pre .table))
+div-ceil-requires-2 c κs = omega arith
 
 returns : tie.Need-returns
 returns c =
     let b = c .before .before .before .before .before .before in
-    let e : c .div-ceil2 .result ≡ upper (b .args .top) (b .args .c * 65535 + cellSteps (now (b .args .table)) (b .args .v) (b .args .c)) = c .div-ceil2 .ensures ∙ ap (λ (s : ℕ). upper (b .args .top) (b .args .c * 65535 + s)) (stepped (c .before)) in
+    let e : c .div-ceil2 .result ≡ divCeil (b .args .c * 65535 + cellSteps (now (b .args .table)) (b .args .v) (b .args .c)) (b .args .top) = c .div-ceil2 .ensures ∙ ap (λ (s : ℕ). divCeil (b .args .c * 65535 + s) (b .args .top)) (stepped (c .before)) in
     (e ∙ sym (cell-least (b .pre)), subst (λ (p : ℕ). p ≤ 65535) (sym e) (cell-inside (b .pre)))
 
 pub in-cell-spec : {M : Type 1} → statement M

@@ -1,13 +1,13 @@
 -- `weighted` meets its contract: both entries are within the table by the bound on the steps. Assumes nothing.
 use native.Mathlib.Nat.{mod-lt}
-use Rattle.lookup.proofs.Steps.{steps-fit, lower-lt, upper-lt}
+use Rattle.lookup.proofs.Steps.{lower-lt, upper-lt}
 use Rattle.lookup.proofs.Sum.{sum-read}
 use borrow.Author.Needs.{needs}
 use Rattle.lookup.proofs.inside.weighted.Statement.{statement}
 use Rattle.lookup.proofs.inside.weighted.Tie as tie
 
 div-ceil-requires : tie.Need-div-ceil-requires
-div-ceil-requires c κs = (c .before .pre .pos, steps-fit _ _ _ (c .before .pre .small) (c .before .pre .few) (c .before .pre .inside))
+div-ceil-requires c κs = c .before .pre .pos
 
 div-lower : tie.Need-div-lower
 div-lower c = search needs

@@ -11,7 +11,7 @@ use Rattle.table.specs.declared.Refusal.the-variants.{AboveLast}
 use Rattle.gamma.specs.declared.Coded.{Coded}
 use Rattle.lookup.specs.Promises.{LookupPromise}
 use Rattle.gamma.specs.Promises.{GammaPromise}
-use Rattle.curve.specs.Promises.{Sitting, sittingOn, StartPromise}
+use Rattle.curve.specs.Promises.{sittingOn, StartPromise}
 use Rattle.least.specs.Promises.{LeastPromise}
 use Rattle.inverse.specs.Promises.{InversePromise}
 
@@ -52,5 +52,5 @@ pub record Thirteen : Type 0 where
   pub case-11 : InversePromise (65535 ∷ 65535 ∷ []) (density 7) (position 0)
   -- [0, 65535], N = 2, depth 10, input 1: gamma lookup 1024
   pub case-12 : GammaPromise (0 ∷ 65535 ∷ []) 2 10 1 (Coded.Value 1024)
-  -- start with 3 entries: 0, 32768, 65535
-  pub case-13 : (lent : Sitting) → StartPromise 3 lent Done.Yes (sittingOn (0 ∷ 32768 ∷ 65535 ∷ []))
+  -- start with 3 entries, whatever they hold: 0, 32768, 65535
+  pub case-13 : (a b c : ℕ) → StartPromise (sittingOn (a ∷ b ∷ c ∷ [])) Done.Yes (sittingOn (0 ∷ 32768 ∷ 65535 ∷ []))

@@ -12,7 +12,7 @@ use Rattle.rounding.specs.Size.{abs}
 use Rattle.inverse_tail.specs.Tail.{cellOf, nodeOf, rounded, between, tail}
 use Rattle.inverse_start.specs.Start.{run, leadingZeros, trailingTops, zeroAtOnce, firstLeft, firstRight}
 use Rattle.inverse.specs.Inverse.{search, searched, inverted}
-use Rattle.numbers.specs.Thirteen.{Thirteen}
+use Rattle.worked_numbers.specs.Thirteen.{Thirteen}
 
 pub thirteen : Thirteen
 unfolding within tabulated weighted lookup16 gammaUnit gamma ramp first leastOf inverted searched search firstRight firstLeft zeroAtOnce trailingTops leadingZeros run tail between rounded nodeOf cellOf abs ceil floor ofInt round neg add sub mul div lt le
@@ -29,5 +29,5 @@ thirteen = record {
   case-10 = record { number = refl; value = refl };
   case-11 = record { number = refl; value = refl };
   case-12 = record { number = refl; value = refl };
-  case-13 = λ lent. record { number = refl; table = refl };
+  case-13 = λ a b c. record { number = refl; table = refl };
 }

@@ -1,0 +1,47 @@
+-- The quotient rounded up: what it is by what is left over, where it lies, and the one fact that makes it the least multiple that is enough.
+-- Assumes nothing.
+use mathlib.Core.Path.{_≡_, ap}
+use mathlib.Core.Logic.{⊎-elim, _↔_}
+use Prim.Native.Nat.{ℕ, _+_, _*_, _/_, _%_, _≤_, _<_}
+use native.Mathlib.Nat.{add-mul, mod-lt, mul-comm, div-le-of-le-mul, div-add-mod', eq-zero-or-pos, lt-of-mul-lt-mul-right, le-mul-of-pos-right, mul-le-mul-right}
+use native.Mathlib.Omega.{arith}
+use borrow.Author.Tests.{lt-ltb, le-ltb}
+use Rattle.table.specs.Quotient.{divCeil}
+
+module _ (v cap : ℕ) where
+  pub ceil-on : v % cap ≡ 0 → divCeil v cap ≡ v / cap
+  ceil-on e = simp (le-ltb 0 (v % cap) (omega arith))
+
+  pub ceil-off : 0 < v % cap → divCeil v cap ≡ v / cap + 1
+  ceil-off h = simp (lt-ltb 0 (v % cap) h)
+
+  -- one more than the quotient is still no more than v, where something is left over
+  pub off-fits : 0 < cap → 0 < v % cap → v / cap + 1 ≤ v
+  off-fits pos h = omega (arith, div-add-mod' v cap, le-mul-of-pos-right (v / cap) pos)
+
+  -- it is not below the quotient, and no more than what is above that
+  pub div-le-ceil : v / cap ≤ divCeil v cap
+  div-le-ceil = ⊎-elim (λ e. omega (arith, ceil-on e)) (λ p. omega (arith, ceil-off p)) (eq-zero-or-pos (v % cap))
+
+  pub ceil-le : {m : ℕ} → v / cap < m → divCeil v cap ≤ m
+  ceil-le h = ⊎-elim (λ e. omega (arith, ceil-on e)) (λ p. omega (arith, ceil-off p)) (eq-zero-or-pos (v % cap))
+
+  -- it is at most x exactly if x times cap is enough
+  pub ceil-le-iff : (x : ℕ) → 0 < cap → (divCeil v cap ≤ x) ↔ (v ≤ x * cap)
+  ceil-le-iff x pos = (enough, least)
+    where
+      enough : divCeil v cap ≤ x → v ≤ x * cap
+      enough h =
+          let m = mul-le-mul-right cap h in
+          ⊎-elim
+          (λ e. omega (arith, div-add-mod' v cap, ap (λ (n : ℕ). n * cap) (ceil-on e)))
+          (λ p. omega (arith, div-add-mod' v cap, mod-lt v pos, ap (λ (n : ℕ). n * cap) (ceil-off p), add-mul (v / cap) 1 cap))
+          (eq-zero-or-pos (v % cap))
+
+      least : v ≤ x * cap → divCeil v cap ≤ x
+      least h =
+          let whole : v / cap ≤ x = div-le-of-le-mul cap (omega (arith, mul-comm cap x)) in
+          ⊎-elim
+          (λ e. omega (arith, ceil-on e))
+          (λ p. ceil-le (lt-of-mul-lt-mul-right cap (omega (arith, div-add-mod' v cap))))
+          (eq-zero-or-pos (v % cap))
