@@ -4,7 +4,6 @@ use curve::start;
 use nudge::nudge;
 use plain_answers::inside::number_of_done;
 use table::Density;
-ghost use lib.ListN.{length};
 ghost use Rattle.table.specs.Answers.{numberOfDone};
 ghost use Rattle.curve.specs.Promises.{sittingOn, StartPromise, AcceptPromise};
 ghost use Rattle.nudge.specs.Promises.{NudgePromise};

@@ -19,7 +19,8 @@ pub record Sitting : Type 0 where
 abbrev pub sittingOn : List ℕ → Sitting
 sittingOn t = record { table = t }
 
--- Start, of as many entries as the lent table has: refused for fewer than 2 or more than 65,536, 1. The table is then the straight curve.
+-- Start, of as many entries as the lent table has: refused for fewer than 2 or more than 65,536, 1. Granted, the table is the straight
+-- curve; refused, it is as it was.
 abbrev pub startVerdict : Sitting → Verdict
 startVerdict s = rung (spanned (length (s .table))) TableLength granted
 

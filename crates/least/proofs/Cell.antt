@@ -9,9 +9,8 @@ use native.Mathlib.Omega.{arith}
 use lib.ListN.{length, getD}
 use Rattle.table.specs.Quotient.{divCeil}
 use Rattle.table.proofs.Choice.{below?}
-use Rattle.table.proofs.Quotient.{ceil-le-iff}
+use Rattle.table.proofs.Quotient.{ceil-le-iff, parted}
 use Rattle.lookup.specs.Lookup.{lookedUp}
-use Rattle.lookup.proofs.Weigh.{parted}
 use Rattle.lookup.proofs.LookupLaws.{lookup-reaches, passed-le-lookup, lookup-le-coming}
 use Rattle.least.specs.Least.{leastOf}
 use Rattle.least.specs.Inside.{Cell}

@@ -1,5 +1,6 @@
--- Demand 3, whole. It rests on what the lookup and the nudging layer promise, and on their laws; of the lookup nothing else is known here. Assumes nothing.
-use mathlib.Core.Path.{_≡_}
+-- Demand 3, whole. It rests on what the lookup and the nudging layer promise, and on their laws; of the lookup nothing else is known here.
+-- Assumes nothing.
+use mathlib.Core.Path.{_≡_, refl}
 use mathlib.Core.Logic.{⊎-elim, _↔_}
 use mathlib.Core.Bool.{true}
 use mathlib.Core.List.{List}
@@ -7,9 +8,9 @@ use Prim.Native.Nat.{ℕ, _≤_, _<_}
 use native.Mathlib.Omega.{arith}
 use lib.ListN.{length}
 use Rattle.table.specs.Sizes.{sized}
-use Rattle.table.specs.Order.{Nondecreasing}
+use Rattle.table.specs.Order.{Nondecreasing, Passed, lastEntry}
 use Rattle.table.specs.declared.Sought.{Sought}
-use Rattle.table.specs.declared.Refusal.the-variants.{AboveLast}
+use Rattle.table.specs.declared.Refusal.{Refusal}
 use Rattle.table.proofs.Choice.{below?}
 use Rattle.table.proofs.Order.{fact-test}
 use Rattle.lookup.specs.Lookup.{lookedUp}
@@ -17,21 +18,19 @@ use Rattle.lookup.specs.Demand.{LookupIn, positionOf, sampleOf, LookupObeys}
 use Rattle.lookup.proofs.LookupLaws.{sample-is, lookup-demand}
 use Rattle.curve.specs.Promises.{Sitting}
 use Rattle.nudge.specs.Calls.{Turn, Throughout, WholeSitting}
-use Rattle.nudge.proofs.Sitting.{held-size, held-order, sitting-throughout, sitting-demand}
+use Rattle.nudge.proofs.Sitting.{sitting-demand, throughout-map}
 use Rattle.least.specs.Least.{leastOf}
-use Rattle.least.specs.Inside.{Passed}
-use Rattle.least.specs.Promises.{lastEntry}
 use Rattle.least.specs.Demand.{LeastIn, LeastObeys, LeastDemand, Demand3}
 use Rattle.least.proofs.LeastLaws.{least-exact}
 use Rattle.least.proofs.Tables.{table-rises, table-inside}
-use Rattle.least.proofs.Promises.{least-found, least-above}
+use Rattle.least.proofs.Promises.{least-some, least-found, least-above}
 
 module _ (t : List ℕ) (size : sized (length t) ≡ true) (order : Nondecreasing t) where
   passed : Passed t
   passed = record { size = size; order = fact-test t order }
 
-  never-above : (m : LeastIn t) → m .answer ≡ Sought.Refused AboveLast → lastEntry t < m .value .0
-  never-above m e = ⊎-elim (λ l. l) reached (below? (lastEntry t) (m .value .0))
+  only-above : (m : LeastIn t) (why : Refusal) → m .answer ≡ Sought.Refused why → lastEntry t < m .value .0
+  only-above m why e = ⊎-elim (λ l. l) reached (below? (lastEntry t) (m .value .0))
     where
       reached : m .value .0 ≤ lastEntry t → lastEntry t < m .value .0
       reached h =
@@ -42,12 +41,14 @@ module _ (t : List ℕ) (size : sized (length t) ≡ true) (order : Nondecreasin
   exact : (v : ℕ) (l : LookupIn t) → (v ≤ sampleOf l) ↔ (leastOf (lookedUp t) v ≤ positionOf l)
   exact v l =
       let e = least-exact (lookedUp t) v (table-rises passed) (positionOf l) (l .bits) in
-      let s = sample-is t size order l in
+      let s = sample-is size l in
       ((λ r. e .0 (omega arith)), (λ r. omega (arith, e .1 r)))
 
   obeys : LeastObeys t
   obeys = record {
-    refused = λ m. (never-above m, (λ h. least-above passed h (m .kept)));
+    everywhere = λ v. record { question = record { value = v; answer = _; kept = least-some t v }; for = refl };
+    refused = only-above;
+    above = λ m h. least-above passed h (m .kept);
     least =
         λ m h.
         record {
@@ -70,10 +71,11 @@ pub record CurveObeys (s : Sitting) : Type 0 where
   pub least : LeastObeys (s .table)
 
 pub sitting-obeys : {lent : Sitting} {opening : Turn} {turns : List Turn} → WholeSitting lent opening turns → Throughout CurveObeys (opening .after) turns
-sitting-obeys w =
-    sitting-throughout w CurveObeys
-    (λ s h _.
+sitting-obeys {lent} {opening} {turns} w =
+    throughout-map
+    (λ s i.
     record {
-      lookup = lookup-demand (s .table) (held-size h) (held-order h);
-      least = least-demand (s .table) (held-size h) (held-order h);
+      lookup = demand-3 .lookup (s .table) (i .size) (i .order);
+      least = demand-3 .least (s .table) (i .size) (i .order);
     })
+    turns (opening .after) (demand-3 .sitting lent opening turns w)

@@ -10,8 +10,8 @@ use Rattle.table.specs.declared.Refusal.the-variants.{AboveLast}
 use Rattle.table.proofs.Answers.{same-sought, soughtBy, sought-number, sought-value, sought-is}
 use Rattle.lookup.specs.Lookup.{lookedUp}
 use Rattle.least.specs.Least.{leastOf}
-use Rattle.least.specs.Inside.{Passed}
-use Rattle.least.specs.Promises.{lastEntry, leastVerdict, LeastPromise}
+use Rattle.table.specs.Order.{Passed, lastEntry}
+use Rattle.least.specs.Promises.{leastVerdict, LeastPromise}
 
 pub least-some : (t : List ℕ) (v : Density) → LeastPromise t v (soughtBy (leastVerdict t (v .0)) (leastOf (lookedUp t) (v .0)))
 least-some t v = record { number = sought-number (leastVerdict t (v .0)) _; value = sought-value (leastVerdict t (v .0)) _ }

@@ -1,17 +1,17 @@
--- What the lookup's laws tell the search of a table that has passed the tests: its lookup never falls, and ends at the last entry. Assumes nothing.
+-- What the lookup's laws tell the search of a table that has passed the tests: its lookup never falls, so that a value not above the last
+-- entry has a least input. Assumes nothing.
 use mathlib.Core.Path.{_≡_, ap}
 use mathlib.Core.List.{List}
 use Prim.Native.Nat.{ℕ, _-_, _≤_, zero-le}
 use native.Mathlib.Omega.{arith}
 use lib.ListN.{length, getD}
-use Rattle.table.specs.Order.{Nondecreasing}
+use Rattle.table.specs.Order.{Nondecreasing, Passed, lastEntry}
 use Rattle.table.proofs.Sizes.{within-high}
 use Rattle.table.proofs.Order.{test-fact}
 use Rattle.lookup.specs.Lookup.{lookedUp}
 use Rattle.lookup.proofs.LookupLaws.{looked-up-rises, looked-up-first, looked-up-last}
 use Rattle.least.specs.Least.{leastOf, NeverFalls}
-use Rattle.least.specs.Inside.{Passed, Searchable}
-use Rattle.least.specs.Promises.{lastEntry}
+use Rattle.least.specs.Inside.{Searchable}
 use Rattle.least.proofs.LeastLaws.{least-at, least-inside}
 
 -- by its last index: the last entry, how large the index is, and the order of the entries

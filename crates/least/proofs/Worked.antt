@@ -1,4 +1,4 @@
--- Worked examples: document 01's least inputs, a value equal to the last entry, each refusal, and demand 3 of one sitting.
+-- Worked examples: document 01's least inputs, a value equal to the last entry, each refusal, and the laws on one sitting's tables.
 -- The lookups in them come from the lookup's law on two weighed entries. Assumes nothing.
 use mathlib.Core.Path.{_≡_, refl, sym, ap}
 use mathlib.Core.Logic.{⊎-elim}
@@ -18,7 +18,7 @@ use Rattle.curve.specs.Promises.{sittingOn}
 use Rattle.nudge.specs.Calls.{Call, nudge, Throughout}
 use Rattle.nudge.proofs.Sitting.{turnsOf, accept-begins, every-list-goes}
 use Rattle.least.specs.Least.{leastOf}
-use Rattle.least.specs.Inside.{Passed}
+use Rattle.table.specs.Order.{Passed}
 use Rattle.least.specs.Promises.{LeastPromise}
 use Rattle.least.proofs.LeastLaws.{least-at}
 use Rattle.least.proofs.Demand.{CurveObeys, sitting-obeys}
@@ -115,7 +115,7 @@ least-falling : LeastPromise (20 ∷ 10 ∷ []) (density 11) (Sought.Refused Not
 unfolding within density
 least-falling = record { number = refl; value = refl }
 
--- Demand 3 of one sitting: the table accepted, and its middle entry nudged to 200.
+-- One sitting, in which the lookup and the least input obey: the table accepted, and its middle entry nudged to 200.
 calls : List Call
 unfolding density
 calls = nudge 1 (density 200) ∷ []

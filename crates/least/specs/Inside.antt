@@ -1,18 +1,11 @@
 -- What the inner functions of this crate and of `least_row` ask of whoever calls them. Assumes nothing.
 use Prim.Native.Nat.{ℕ, _+_, _≤_, _<_}
 use mathlib.Core.Path.{_≡_}
-use mathlib.Core.Bool.{true}
 use mathlib.Core.List.{List}
 use lib.ListN.{length, getD}
-use Rattle.table.specs.Sizes.{sized}
-use Rattle.table.specs.Order.{nondecreasing}
+use Rattle.table.specs.Order.{Passed}
 
--- a table that has passed the tests
-pub record Passed (t : List ℕ) : Type 0 where
-  pub size : sized (length t) ≡ true
-  pub order : nondecreasing t ≡ true
-
--- and its last index
+-- a table that has passed the tests, and its last index
 pub record Searchable (t : List ℕ) (top : ℕ) : Type 0 where
   pub passed : Passed t
   pub last : length t ≡ top + 1

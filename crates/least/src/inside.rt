@@ -7,7 +7,7 @@ ghost use Prim.Native.Nat.{_≤_};
 ghost use Rattle.lookup.specs.Lookup.{lookedUp};
 ghost use Rattle.least.specs.Inside.{Searchable, FirstReaching, Cell};
 ghost use Rattle.least.specs.Least.{leastOf};
-ghost use Rattle.least.specs.Promises.{lastEntry};
+ghost use Rattle.table.specs.Order.{lastEntry};
 
 // The index of the first entry that is not below v, in a table whose last is not. The entries are halved until one is left.
 fn first_reaching(table: &[u16], top: usize, v: u16) -> usize

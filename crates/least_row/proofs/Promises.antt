@@ -9,7 +9,7 @@ use native.Mathlib.Omega.{arith}
 use lib.ListN.{length, getD}
 use lib.Dec.{eqb}
 use Rattle.table.specs.Sizes.{sized}
-use Rattle.table.specs.Order.{nondecreasing}
+use Rattle.table.specs.Order.{nondecreasing, Passed, lastEntry}
 use Rattle.table.specs.Refusals.{Verdict, granted, refused, ifGranted}
 use Rattle.table.specs.declared.Done.{Done}
 use Rattle.table.specs.declared.Sought.{Sought}
@@ -21,8 +21,7 @@ use Rattle.table.proofs.Answers.{same-done, doneBy, done-number, done-is, done-
 use Rattle.table.proofs.Fill.{getD-tabulated}
 use Rattle.lookup.specs.Lookup.{lookedUp}
 use Rattle.least.specs.Least.{leastOf}
-use Rattle.least.specs.Inside.{Passed}
-use Rattle.least.specs.Promises.{lastEntry, leastVerdict, LeastPromise}
+use Rattle.least.specs.Promises.{leastVerdict, LeastPromise}
 use Rattle.least.proofs.Tables.{table-inside}
 use Rattle.least.proofs.Promises.{least-answer, least-found, least-above}
 use Rattle.least_row.specs.Promises.{leastRowAt, leastRowOf, leastRowVerdict, LeastRowPromise}

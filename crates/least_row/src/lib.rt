@@ -6,7 +6,8 @@ use table::in_order;
 use table::sized;
 ghost use mathlib.Core.Path.{_≡_};
 ghost use lib.ListN.{length};
-ghost use Rattle.least.specs.Inside.{Passed, Searchable};
+ghost use Rattle.table.specs.Order.{Passed};
+ghost use Rattle.least.specs.Inside.{Searchable};
 ghost use Rattle.least_row.specs.Promises.{rowPosition, leastRowOf, LeastRowPromise};
 
 // What a row holds for v: its least input, or one past the last position where there is none.

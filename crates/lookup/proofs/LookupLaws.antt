@@ -1,6 +1,6 @@
--- The laws of the 16-bit lookup. On any source of entries: it lies between its two entries, is exact on an entry, depends on those two alone, and reaches
--- a value exactly if they do, weighed.
--- On a nondecreasing one: it never falls as the position rises. Assumes nothing.
+-- The laws of the 16-bit lookup. On any source of entries: it lies between its two entries, is exact on an entry, and depends on those
+-- two alone. In a table it reaches a value exactly if they do, weighed. On a nondecreasing table it never falls as the position rises,
+-- and all that demand 3 asks of it holds (`lookup-demand`). Assumes nothing.
 use mathlib.Core.Path.{_≡_, _∙_, ap, refl, sym, subst}
 use mathlib.Core.Logic.{_↔_}
 use mathlib.Core.Bool.{true}
@@ -11,7 +11,7 @@ use native.Mathlib.Omega.{arith}
 use lib.ListN.{length, getD}
 use lib.Dec.{lit<}
 use Rattle.table.specs.Sizes.{sized}
-use Rattle.table.specs.Order.{Nondecreasing, SixteenBits}
+use Rattle.table.specs.Order.{Nondecreasing, SixteenBits, lastEntry}
 use Rattle.table.specs.Answers.{numberOfLooked, valueOfLooked}
 use Rattle.table.proofs.Sizes.{within-low}
 use Rattle.table.proofs.Quotient.{ceil-le-iff}
@@ -19,7 +19,7 @@ use Rattle.lookup.specs.Demand.{LookupIn, positionOf, sampleOf, LookupOb
 use Rattle.lookup.specs.Lookup.{lower, upper, weighted, steps, lookup16, entriesOf, lookedUp}
 use Rattle.lookup.proofs.Steps.{steps-le, lower-lt}
 use Rattle.lookup.proofs.Sum.{Rises, div-mono, sum-same, sum-on-entry, sum-steps, sum-at-most, sum-at-least, sum-first, sum-last, lower-le-sum, sum-le-upper, sum-rises}
-use Rattle.lookup.proofs.Promises.{lookup-granted}
+use Rattle.lookup.proofs.Promises.{lookup-some, lookup-granted}
 
 cap>0 : 0 < 65535
 cap>0 = lit< tt
@@ -101,12 +101,16 @@ module _ (T : ℕ → ℕ) (n : ℕ) (some : 0 < n) (R : Rises n T) where
 pub looked-up-first : (t : List ℕ) → lookedUp t 0 ≡ getD t 0 0
 looked-up-first t = lookup-first (entriesOf t) (length t)
 
-pub looked-up-last : (t : List ℕ) → lookedUp t 65535 ≡ getD t (length t - 1) 0
+pub looked-up-last : (t : List ℕ) → lookedUp t 65535 ≡ lastEntry t
 looked-up-last t = lookup-last (entriesOf t) (length t)
 
 -- in a table of 16-bit entries the answer is 16 bits wide
 pub looked-up-fits : (t : List ℕ) → SixteenBits t → (p : ℕ) → lookedUp t p ≤ 65535
 looked-up-fits t b p = lookup-at-most (entriesOf t) (length t) p 65535 (le-of-suc-le-suc (b _)) (le-of-suc-le-suc (b _))
+
+-- an answer that keeps the promise in a table of 1 to 65,536 entries holds its lookup
+pub sample-is : {t : List ℕ} → sized (length t) ≡ true → (l : LookupIn t) → sampleOf l ≡ lookedUp t (positionOf l)
+sample-is size l = ap valueOfLooked (lookup-granted size (l .kept))
 
 -- What holds of every table that demand 3 speaks of, position by position.
 module _ (t : List ℕ) (size : sized (length t) ≡ true) (R : Nondecreasing t) where
@@ -130,22 +134,19 @@ module _ (t : List ℕ) (size : sized (length t) ≡ true) (R : Nondecreasing t)
       le-trans (lookup-le-upper (entriesOf t) (length t) some R p h)
       (R (upper 65535 v) c (ceil-le-iff v 65535 c cap>0 .1 l) inside)
 
-  -- an answer that keeps the promise holds that lookup
-  pub sample-is : (l : LookupIn t) → sampleOf l ≡ lookedUp t (positionOf l)
-  sample-is l = ap valueOfLooked (lookup-granted size (l .kept))
-
   obeys : LookupObeys t
   obeys = record {
+    everywhere = λ p h. record { lookup = record { position = record { 0 = p }; answer = _; bits = h; kept = lookup-some t _ }; there = refl };
     granted = λ l. ap numberOfLooked (lookup-granted size (l .kept));
     never-falls =
         λ l m le.
-        omega (arith, sample-is l, sample-is m, looked-up-rises (positionOf l) (positionOf m) le (m .bits));
+        omega (arith, sample-is size l, sample-is size m, looked-up-rises (positionOf l) (positionOf m) le (m .bits));
     not-below =
-        λ l. omega (arith, sample-is l, lower-le-lookup (entriesOf t) (length t) some R (positionOf l) (l .bits));
+        λ l. omega (arith, sample-is size l, lower-le-lookup (entriesOf t) (length t) some R (positionOf l) (l .bits));
     not-above =
-        λ l. omega (arith, sample-is l, lookup-le-upper (entriesOf t) (length t) some R (positionOf l) (l .bits));
-    first = λ l e. sample-is l ∙ ap (lookedUp t) e ∙ looked-up-first t;
-    last = λ l e. sample-is l ∙ ap (lookedUp t) e ∙ looked-up-last t;
+        λ l. omega (arith, sample-is size l, lookup-le-upper (entriesOf t) (length t) some R (positionOf l) (l .bits));
+    first = λ l e. sample-is size l ∙ ap (lookedUp t) e ∙ looked-up-first t;
+    last = λ l e. sample-is size l ∙ ap (lookedUp t) e ∙ looked-up-last t;
   }
 
 pub lookup-demand : LookupDemand

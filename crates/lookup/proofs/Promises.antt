@@ -1,4 +1,5 @@
--- The promise names one answer, a refused call too; and what it tells whoever knows the table's length. Assumes nothing.
+-- The promise is met (`lookup-some`) and names one answer, a refused call too; and what it tells whoever knows the table's length.
+-- Assumes nothing.
 use mathlib.Core.Path.{_≡_, _∙_, sym}
 use mathlib.Core.Bool.{true, false}
 use mathlib.Core.List.{List}
@@ -8,9 +9,12 @@ use Rattle.table.specs.Sizes.{sized}
 use Rattle.table.specs.declared.Drive.{Drive}
 use Rattle.table.specs.declared.Looked.{Looked}
 use Rattle.table.specs.declared.Refusal.the-variants.{TableLength}
-use Rattle.table.proofs.Answers.{same-looked}
+use Rattle.table.proofs.Answers.{same-looked, lookedBy, looked-number, looked-value}
 use Rattle.lookup.specs.Lookup.{lookedUp}
-use Rattle.lookup.specs.Promises.{LookupPromise}
+use Rattle.lookup.specs.Promises.{lookupVerdict, LookupPromise}
+
+pub lookup-some : (t : List ℕ) (p : Drive) → LookupPromise t p (lookedBy (lookupVerdict t) (lookedUp t (p .0)))
+lookup-some t p = record { number = looked-number (lookupVerdict t) _; value = looked-value (lookupVerdict t) _ }
 
 pub lookup-one : {t : List ℕ} {p : Drive} {r s : Looked} → LookupPromise t p r → LookupPromise t p s → r ≡ s
 lookup-one {t} {p} {r} {s} a b = same-looked r s (a .number ∙ sym (b .number)) (a .value ∙ sym (b .value))

@@ -1,16 +1,13 @@
 -- Two numbers a and b weighed by k of cap steps from a to b: the sum of products, over any cap. Assumes nothing.
-use mathlib.Core.Path.{_≡_, _∙_, ap, sym}
+use mathlib.Core.Path.{_≡_, ap}
 use Prim.Native.Nat.{ℕ, _+_, _-_, _*_, _≤_}
-use native.Mathlib.Nat.{mul-add, add-sub-of-le, mul-le-mul, mul-le-mul-right}
+use native.Mathlib.Nat.{mul-le-mul, mul-le-mul-right}
 use native.Mathlib.Omega.{arith}
+use Rattle.table.proofs.Quotient.{parted}
 
 -- a product of two 16-bit numbers
 pub product-le : {a k : ℕ} → a ≤ 65535 → k ≤ 65535 → a * k ≤ 65535 * 65535
 product-le {a} {k} h l = mul-le-mul {n₁ = a} {m₁ = k} {n₂ = 65535} {m₂ = 65535} h l
-
--- x times cap, parted at k
-pub parted : (x : ℕ) {k cap : ℕ} → k ≤ cap → x * cap ≡ x * k + x * (cap - k)
-parted x {k} {cap} h = ap (λ (n : ℕ). x * n) (sym (add-sub-of-le h)) ∙ mul-add x k (cap - k)
 
 module _ (cap a b : ℕ) where
   -- the sum is no more than cap times a bound of both, and no less than cap times what neither is below

@@ -1,12 +1,12 @@
--- Demand 3's part on the 16-bit lookup: on every nondecreasing table of 1 to 65,536 entries, whatever keeps the lookup's promise obeys these laws.
--- Assumes nothing.
-use Prim.Native.Nat.{ℕ, _-_, _≤_}
+-- Demand 3's part on the 16-bit lookup: on every nondecreasing table of 1 to 65,536 entries, whatever keeps the lookup's promise obeys
+-- these laws. Assumes nothing.
+use Prim.Native.Nat.{ℕ, _≤_}
 use mathlib.Core.Path.{_≡_}
 use mathlib.Core.Bool.{true}
 use mathlib.Core.List.{List}
 use lib.ListN.{length, getD}
 use Rattle.table.specs.Sizes.{sized}
-use Rattle.table.specs.Order.{Nondecreasing}
+use Rattle.table.specs.Order.{Nondecreasing, lastEntry}
 use Rattle.table.specs.Answers.{numberOfLooked, valueOfLooked}
 use Rattle.table.specs.declared.Drive.{Drive}
 use Rattle.table.specs.declared.Looked.{Looked}
@@ -27,8 +27,14 @@ module _ {t : List ℕ} (l : LookupIn t) where
   abbrev pub sampleOf : ℕ
   sampleOf = valueOfLooked (l .answer)
 
+-- one at position p
+pub record LookupAt (t : List ℕ) (p : ℕ) : Type 0 where
+  pub lookup : LookupIn t
+  pub there : positionOf lookup ≡ p
+
 pub record LookupObeys (t : List ℕ) : Type 0 where
-  -- it is never refused
+  -- there is one at every position, and none is refused
+  pub everywhere : (p : ℕ) → p ≤ 65535 → LookupAt t p
   pub granted : (l : LookupIn t) → numberOfLooked (l .answer) ≡ 0
   -- it never falls as the position rises
   pub never-falls : (l m : LookupIn t) → positionOf l ≤ positionOf m → sampleOf l ≤ sampleOf m
@@ -37,7 +43,7 @@ pub record LookupObeys (t : List ℕ) : Type 0 where
   pub not-above : (l : LookupIn t) → sampleOf l ≤ getD t (upper 65535 (steps (length t) (positionOf l))) 0
   -- and it is exact at both ends
   pub first : (l : LookupIn t) → positionOf l ≡ 0 → sampleOf l ≡ getD t 0 0
-  pub last : (l : LookupIn t) → positionOf l ≡ 65535 → sampleOf l ≡ getD t (length t - 1) 0
+  pub last : (l : LookupIn t) → positionOf l ≡ 65535 → sampleOf l ≡ lastEntry t
 
 abbrev pub LookupDemand : Type 0
 LookupDemand = (t : List ℕ) → sized (length t) ≡ true → Nondecreasing t → LookupObeys t

@@ -6,5 +6,4 @@ pub record StepsFit (cap n v : ℕ) : Type 0 where
   pub pos : 0 < cap
   pub small : cap ≤ 65535
   pub some : 0 < n
-  pub few : n ≤ 65536
   pub inside : v ≤ (n - 1) * cap

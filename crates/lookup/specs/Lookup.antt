@@ -4,8 +4,7 @@
 use Prim.Native.Nat.{ℕ, _+_, _-_, _*_, _/_, _%_}
 use mathlib.Core.List.{List}
 use lib.ListN.{length, getD}
-use lib.Dec.{ltb}
-use Rattle.table.specs.Choice.{pick}
+use Rattle.table.specs.Quotient.{divCeil}
 
 -- lower = floor(v/cap)
 abbrev pub lower : ℕ → ℕ → ℕ
@@ -15,9 +14,9 @@ lower cap v = v / cap
 abbrev pub rest : ℕ → ℕ → ℕ
 rest cap v = v % cap
 
--- upper = lower + 1 if k > 0, else lower
+-- upper = lower + 1 if k > 0, else lower: the quotient rounded up
 abbrev pub upper : ℕ → ℕ → ℕ
-upper cap v = pick (ltb 0 (rest cap v)) (lower cap v + 1) (lower cap v)
+upper cap v = divCeil v cap
 
 -- S = T[upper]·k + T[lower]·(cap - k), the sum of the two weighted entries
 unfoldable pub weighted : ℕ → (ℕ → ℕ) → ℕ → ℕ

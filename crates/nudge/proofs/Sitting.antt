@@ -1,6 +1,5 @@
--- What holds throughout a sitting, and that each call keeps it: demand 3's part on the table. Callers use the laws on `Held`, and need not know what it is made of.
--- Sittings there are: every granted start or accept begins one, and from there every list of calls is one (`begins`, `every-list-goes`).
--- Assumes nothing.
+-- What holds throughout a sitting, and that each call keeps it: demand 3's part on the table. Sittings there are: every granted start or
+-- accept begins one, and from there every list of calls is one (`begins`, `every-list-goes`). Assumes nothing.
 use mathlib.Core.Path.{_≡_, _∙_, refl, sym, ap, subst}
 use mathlib.Core.Bool.{true}
 use mathlib.Core.List.{List, [], _∷_}
@@ -8,7 +7,7 @@ use Prim.Native.Nat.{ℕ, _<_}
 use native.Mathlib.Omega.{arith}
 use lib.ListN.{length, set, length-set}
 use Rattle.table.specs.Sizes.{sized, spanned}
-use Rattle.table.specs.Order.{nondecreasing, Nondecreasing, SixteenBits}
+use Rattle.table.specs.Order.{nondecreasing, Passed, SixteenBits}
 use Rattle.table.specs.Refusals.{Verdict, ifGranted}
 use Rattle.table.specs.declared.Density.{Density}
 use Rattle.table.specs.declared.Done.{Done}
@@ -26,26 +25,18 @@ use Rattle.nudge.specs.Calls.{Call, start, accept, nudge, Step, Turn, Ru
 use Rattle.nudge.specs.Demand.{InOrder, SittingDemand}
 use Rattle.nudge.proofs.Promises.{nudge-some, nudge-granted, nudge-refused, nudge-length}
 
--- What always holds: the table may be worked on, and is nondecreasing.
-pub record Held (s : Sitting) : Type 0 where
-  size : sized (length (s .table)) ≡ true
-  order : nondecreasing (s .table) ≡ true
+-- What always holds: the table may be worked on.
+abbrev Held : Sitting → Type 0
+Held s = Passed (s .table)
 
-module _ {s : Sitting} (h : Held s) where
-  pub held-size : sized (length (s .table)) ≡ true
-  held-size = h .size
-
-  pub held-order : Nondecreasing (s .table)
-  held-order = test-fact (s .table) (h .order)
-
--- the straight curve has it
+-- that of the straight curve may,
 held-ramp : (n : ℕ) → spanned n ≡ true → Held (sittingOn (rampOf n))
 held-ramp n h = record {
   size = is-within 1 65536 (length (rampOf n)) (omega (arith, length-tabulated (ramp n) n, within-low 2 65536 n h)) (omega (arith, length-tabulated (ramp n) n, within-high 2 65536 n h));
   order = fact-test (rampOf n) (ramp-order n h);
 }
 
--- and so has what a granted start or accept leaves
+-- and so may what a granted start or accept leaves
 held-open : (call : Call) (s s′ : Sitting) → opens call ≡ true → Step s call Done.Yes s′ → Held s′
 held-open start s s′ o a =
     let g = start-granted a in
@@ -61,11 +52,11 @@ held-nudge {s} {s′} {i} {v} h a =
     subst Held (sym (ap sittingOn (g .1)))
     (record {
       size = subst (λ (n : ℕ). sized n ≡ true) (sym (length-set (s .table) i (v .0))) (h .size);
-      order = set-test (s .table) i (v .0) (held-order h) (g .0 .index) (g .0 .fitting);
+      order = set-test (s .table) i (v .0) (test-fact (s .table) (h .order)) (g .0 .index) (g .0 .fitting);
     })
 
 -- every call keeps it, granted or refused,
-pub step-keeps : (call : Call) (r : Done) (s s′ : Sitting) → Held s → Step s call r s′ → Held s′
+step-keeps : (call : Call) (r : Done) (s s′ : Sitting) → Held s → Step s call r s′ → Held s′
 step-keeps start Done.Yes s s′ h a = held-open start s s′ refl a
 step-keeps start (Done.Refused why) s s′ h a = subst Held (sym (start-refused a)) h
 step-keeps accept r s s′ h a = subst Held (sym (accept-same a)) h
@@ -73,38 +64,39 @@ step-keeps (nudge i v) Done.Yes s s′ h a = held-nudge h a
 step-keeps (nudge i v) (Done.Refused why) s s′ h a = subst Held (sym (nudge-refused a)) h
 
 -- and the length
-pub step-length : (call : Call) (r : Done) (s s′ : Sitting) → Step s call r s′ → length (s′ .table) ≡ length (s .table)
+step-length : (call : Call) (r : Done) (s s′ : Sitting) → Step s call r s′ → length (s′ .table) ≡ length (s .table)
 step-length start Done.Yes s s′ a =
     ap length (start-granted a .1) ∙ length-tabulated (ramp (length (s .table))) (length (s .table))
 step-length start (Done.Refused why) s s′ a = ap (λ (q : Sitting). length (q .table)) (start-refused a)
 step-length accept r s s′ a = ap (λ (q : Sitting). length (q .table)) (accept-same a)
 step-length (nudge i v) r s s′ a = nudge-length r a
 
--- so what follows of a held sitting of n entries holds after each of any list of calls
-module _ (n : ℕ) (P : Sitting → Type 0) (follows : (s : Sitting) → Held s → length (s .table) ≡ n → P s) where
-  run-keeps : (turns : List Turn) (s : Sitting) → Held s → length (s .table) ≡ n → Run s turns → Throughout P s turns
-  run-keeps [] s h e run = follows s h e
+-- so both hold after each of any list of calls
+module _ (lent : Sitting) where
+  held-in-order : {s : Sitting} → Held s → length (s .table) ≡ length (lent .table) → InOrder lent s
+  held-in-order {s} h e = record { order = test-fact (s .table) (h .order); size = h .size; same-length = e }
+
+  run-keeps : (turns : List Turn) (s : Sitting) → Held s → length (s .table) ≡ length (lent .table) → Run s turns → Throughout (InOrder lent) s turns
+  run-keeps [] s h e run = held-in-order h e
   run-keeps (t ∷ turns) s h e run = (
-    follows s h e,
+    held-in-order h e,
     run-keeps turns (t .after) (step-keeps (t .call) (t .answer) s (t .after) h (run .0))
         (step-length (t .call) (t .answer) s (t .after) (run .0) ∙ e) (run .1),
   )
 
-module _ {lent : Sitting} {opening : Turn} {turns : List Turn} (w : WholeSitting lent opening turns) where
-  opening-held : Held (opening .after)
-  opening-held =
-      held-open (opening .call) lent (opening .after) (w .opened)
-      (subst (λ (r : Done). Step lent (opening .call) r (opening .after)) (w .granted) (w .run .0))
-
-  -- and throughout a whole sitting
-  pub sitting-throughout : (P : Sitting → Type 0) → ((s : Sitting) → Held s → length (s .table) ≡ length (lent .table) → P s) → Throughout P (opening .after) turns
-  sitting-throughout P follows =
-      run-keeps (length (lent .table)) P follows turns (opening .after) opening-held
-      (step-length (opening .call) (opening .answer) lent (opening .after) (w .run .0)) (w .run .1)
-
+-- and throughout a whole sitting
 pub sitting-demand : SittingDemand
 sitting-demand lent opening turns w =
-    sitting-throughout w (InOrder lent) (λ s h e. record { order = held-order h; size = held-size h; same-length = e })
+    let opened =
+    held-open (opening .call) lent (opening .after) (w .opened)
+    (subst (λ (r : Done). Step lent (opening .call) r (opening .after)) (w .granted) (w .run .0)) in
+    run-keeps lent turns (opening .after) opened
+    (step-length (opening .call) (opening .answer) lent (opening .after) (w .run .0)) (w .run .1)
+
+-- what follows at each turn follows throughout
+pub throughout-map : {P Q : Sitting → Type 0} → ((s : Sitting) → P s → Q s) → (turns : List Turn) (s : Sitting) → Throughout P s turns → Throughout Q s turns
+throughout-map f [] s a = f s a
+throughout-map f (t ∷ turns) s a = (f s (a .0), throughout-map f turns (t .after) (a .1))
 
 -- Entries stay 16 bits wide where the samples of the nudges are.
 abbrev pub Fits : Call → Type 0
@@ -116,7 +108,7 @@ abbrev pub AllFit : List Turn → Type 0
 AllFit [] = Unit {0}
 AllFit (t ∷ turns) = Fits (t .call) × AllFit turns
 
-abbrev Bits : Sitting → Type 0
+abbrev pub Bits : Sitting → Type 0
 Bits s = SixteenBits (s .table)
 
 step-bits : (call : Call) (r : Done) (s s′ : Sitting) → Fits call → Bits s → Step s call r s′ → Bits s′
@@ -129,7 +121,7 @@ step-bits (nudge i v) Done.Yes s s′ f b a =
     subst SixteenBits (sym (nudge-granted a .1)) (set-keeps-bits (s .table) i (v .0) b f)
 step-bits (nudge i v) (Done.Refused why) s s′ f b a = subst Bits (sym (nudge-refused a)) b
 
-pub run-keeps-bits : (turns : List Turn) (s : Sitting) → SixteenBits (s .table) → AllFit turns → Run s turns → Throughout (λ (q : Sitting). SixteenBits (q .table)) s turns
+pub run-keeps-bits : (turns : List Turn) (s : Sitting) → Bits s → AllFit turns → Run s turns → Throughout Bits s turns
 run-keeps-bits [] s b f run = b
 run-keeps-bits (t ∷ turns) s b f run =
     (b, run-keeps-bits turns (t .after) (step-bits (t .call) (t .answer) s (t .after) (f .0) b (run .0)) (f .1) (run .1))

@@ -1,8 +1,9 @@
 -- Worked examples: each refusal and its order, and one whole sitting with a granted and a refused nudge. Assumes nothing.
 use mathlib.Core.Path.{_≡_, refl}
 use mathlib.Core.List.{List, [], _∷_}
-use Prim.Native.Nat.{ℕ}
+use Prim.Native.Nat.{ℕ, zero, suc}
 use lib.ListN.{length}
+use lib.Dec.{lit<}
 use Rattle.table.specs.Sizes.{within}
 use Rattle.table.specs.Order.{notBelowLeft, notAboveRight}
 use Rattle.table.specs.Fill.{tabulated}
@@ -14,7 +15,7 @@ use Rattle.curve.specs.Promises.{Sitting, sittingOn}
 use Rattle.nudge.specs.Promises.{NudgePromise}
 use Rattle.nudge.specs.Calls.{Turn, start, nudge, Throughout, WholeSitting}
 use Rattle.nudge.specs.Demand.{InOrder}
-use Rattle.nudge.proofs.Sitting.{sitting-demand}
+use Rattle.nudge.proofs.Sitting.{sitting-demand, Bits, run-keeps-bits}
 
 density : ℕ → Density
 density n = record { 0 = n }
@@ -80,3 +81,15 @@ whole = record {
 
 whole-in-order : Throughout (InOrder lent) (opening .after) nudges
 whole-in-order = sitting-demand lent opening nudges whole
+
+-- its entries are 16 bits wide from the first to the last
+lent-bits : Bits lent
+unfolding lent
+lent-bits zero = lit< tt
+lent-bits (suc zero) = lit< tt
+lent-bits (suc (suc zero)) = lit< tt
+lent-bits (suc (suc (suc i))) = lit< tt
+
+whole-bits : Throughout Bits lent (opening ∷ nudges)
+unfolding opening nudges density
+whole-bits = run-keeps-bits (opening ∷ nudges) lent lent-bits (tt, (lit< tt, (lit< tt, tt))) (whole .run)

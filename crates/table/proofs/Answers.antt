@@ -48,6 +48,19 @@ done-granted w e = same-verdict w granted (sym e)
 pub done-refused : (w : Verdict) (why : Refusal) → numberOfDone (Done.Refused why) ≡ numberIn w → w ≡ refused why
 done-refused w why e = same-verdict w (refused why) (sym e)
 
+-- what a call that gives a sample answers by its tests and the sample x
+abbrev pub lookedBy : Verdict → ℕ → Looked
+lookedBy granted x = Looked.At (record { 0 = x })
+lookedBy (refused why) x = Looked.Refused why
+
+pub looked-number : (w : Verdict) (x : ℕ) → numberOfLooked (lookedBy w x) ≡ numberIn w
+looked-number granted x = refl
+looked-number (refused why) x = refl
+
+pub looked-value : (w : Verdict) (x : ℕ) → valueOfLooked (lookedBy w x) ≡ ifGranted w x 0
+looked-value granted x = refl
+looked-value (refused why) x = refl
+
 -- what a call that seeks a position answers by its tests and the position p
 abbrev pub soughtBy : Verdict → ℕ → Sought
 soughtBy granted p = Sought.At (record { 0 = p })

@@ -1,9 +1,9 @@
--- The quotient rounded up: what it is by what is left over, where it lies, and the one fact that makes it the least multiple that is enough.
--- Assumes nothing.
-use mathlib.Core.Path.{_≡_, ap}
+-- The quotient rounded up: what it is by what is left over, where it lies, and the one fact that makes it the least number of times that
+-- is enough. And a product parted in two. Assumes nothing.
+use mathlib.Core.Path.{_≡_, _∙_, sym, ap}
 use mathlib.Core.Logic.{⊎-elim, _↔_}
-use Prim.Native.Nat.{ℕ, _+_, _*_, _/_, _%_, _≤_, _<_}
-use native.Mathlib.Nat.{add-mul, mod-lt, mul-comm, div-le-of-le-mul, div-add-mod', eq-zero-or-pos, lt-of-mul-lt-mul-right, le-mul-of-pos-right, mul-le-mul-right}
+use Prim.Native.Nat.{ℕ, _+_, _-_, _*_, _/_, _%_, _≤_, _<_}
+use native.Mathlib.Nat.{mul-add, add-sub-of-le, add-mul, mod-lt, mul-comm, div-le-of-le-mul, div-add-mod', eq-zero-or-pos, lt-of-mul-lt-mul-right, le-mul-of-pos-right, mul-le-mul-right}
 use native.Mathlib.Omega.{arith}
 use borrow.Author.Tests.{lt-ltb, le-ltb}
 use Rattle.table.specs.Quotient.{divCeil}
@@ -45,3 +45,7 @@ module _ (v cap : ℕ) where
           (λ e. omega (arith, ceil-on e))
           (λ p. ceil-le (lt-of-mul-lt-mul-right cap (omega (arith, div-add-mod' v cap))))
           (eq-zero-or-pos (v % cap))
+
+-- x times cap, parted at k
+pub parted : (x : ℕ) {k cap : ℕ} → k ≤ cap → x * cap ≡ x * k + x * (cap - k)
+parted x {k} {cap} h = ap (λ (n : ℕ). x * n) (sym (add-sub-of-le h)) ∙ mul-add x k (cap - k)

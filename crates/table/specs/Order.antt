@@ -1,11 +1,13 @@
--- A nondecreasing table, as a test that computes and as a fact of every two entries, and an entry that fits between its neighbours.
--- Assumes nothing.
+-- A nondecreasing table, as a test that computes and as a fact of every two entries; a table that may be worked on; and an entry that
+-- fits between its neighbours. Assumes nothing.
 use Prim.Native.Nat.{ℕ, _+_, _-_, _≤_, _<_}
+use mathlib.Core.Path.{_≡_}
 use mathlib.Core.Bool.{Bool, true}
 use mathlib.Core.List.{List, [], _∷_}
 use lib.ListN.{length, getD}
 use lib.Dec.{leb, ltb}
 use Rattle.table.specs.Choice.{pick, both}
+use Rattle.table.specs.Sizes.{sized}
 
 -- the first entry is not below x, and no other is below the one before it
 abbrev pub nondecreasingFrom : ℕ → List ℕ → Bool
@@ -20,6 +22,14 @@ nondecreasing (x ∷ l) = nondecreasingFrom x l
 -- the same as a fact: of any two entries the later is not below the earlier
 abbrev pub Nondecreasing : List ℕ → Type 0
 Nondecreasing t = (i j : ℕ) → i ≤ j → j < length t → getD t i 0 ≤ getD t j 0
+
+-- a table that may be worked on: it has 1 to 65,536 entries and is nondecreasing
+pub record Passed (t : List ℕ) : Type 0 where
+  pub size : sized (length t) ≡ true
+  pub order : nondecreasing t ≡ true
+
+abbrev pub lastEntry : List ℕ → ℕ
+lastEntry t = getD t (length t - 1) 0
 
 -- every entry is 16 bits wide
 abbrev pub SixteenBits : List ℕ → Type 0

@@ -1,4 +1,4 @@
--- The quotient rounded up. Assumes nothing.
+-- The quotient rounded up, which the lookup and the least input share. Assumes nothing.
 use Prim.Native.Nat.{ℕ, _+_, _/_, _%_}
 use lib.Dec.{ltb}
 use Rattle.table.specs.Choice.{pick}

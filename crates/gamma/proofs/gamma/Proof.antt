@@ -32,7 +32,6 @@ weighted-requires c κs =
       pos = omega arith;
       small = omega arith;
       some = p .some;
-      few = p .few;
       inside = steps-le (length (now (c .before .args .table))) x;
     }
 

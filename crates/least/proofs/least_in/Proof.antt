@@ -4,7 +4,7 @@ use native.Mathlib.Omega.{arith}
 use borrow.Author.Needs.{needs}
 use borrow.Author.Tests.{le-leb, lt-leb}
 use denote.Ref.{now}
-use Rattle.least.specs.Promises.{lastEntry}
+use Rattle.table.specs.Order.{lastEntry}
 use Rattle.least.proofs.Tables.{searchable-last}
 use Rattle.least.proofs.least_in.Statement.{statement}
 use Rattle.least.proofs.least_in.Tie as tie

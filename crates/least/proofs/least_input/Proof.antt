@@ -4,7 +4,7 @@ use borrow.Author.Needs.{needs}
 use denote.Ref.{now}
 use Rattle.table.proofs.Choice.{fails, holds}
 use Rattle.table.proofs.Sizes.{within-low}
-use Rattle.least.specs.Inside.{Passed}
+use Rattle.table.specs.Order.{Passed}
 use Rattle.least.proofs.least_input.Statement.{statement}
 use Rattle.least.proofs.least_input.Tie as tie
 

@@ -3,7 +3,7 @@ use borrow.Author.Needs.{needs}
 use borrow.Author.Tests.{eq-eqb, ne-eqb}
 use denote.Ref.{now}
 use Rattle.table.proofs.Choice.{fails, holds}
-use Rattle.least.specs.Inside.{Passed}
+use Rattle.table.specs.Order.{Passed}
 use Rattle.least_row.proofs.least_input_row.Statement.{statement}
 use Rattle.least_row.proofs.least_input_row.Tie as tie
 

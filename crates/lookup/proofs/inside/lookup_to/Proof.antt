@@ -20,7 +20,6 @@ weighted-requires c κs = record {
   pos = lit< tt;
   small = lit≤ tt;
   some = omega arith;
-  few = omega arith;
   inside = omega (arith, mul-le-mul-right (c .before .before .args .top) (c .wide .ensures .1));
 }
 
