@@ -121,6 +121,7 @@ WEAKENINGS = [
         "`house::entries::curve` has no block",
         more("crates/house/src/lib.rt", "pub use entries::curve;\n"),
     ),
+    ("the face is called a program", "is the face", ("docs/PROMISES.md", "`narrowing`;", "`narrowing`, `brassgroat`;")),
     # Pages that cite what is not there.
     ("an edit that is gone is cited", "`gone`", more("docs/HONESTY.md", "lookup/must-fail `gone`\n")),
     ("a law that is gone is cited", "`gone`", more("docs/SENTENCES.md", "table/proofs/Order `fact-test`,\n`gone`\n")),
