@@ -197,7 +197,7 @@ def expression(items, path, bound):
     if items[:1] == ["λ"] and len(items) > 2 and isinstance(items[1], str):
         name = items[1].rstrip(".")
         return "λ", name, expression(items[2:], path, {*bound, name})
-    operators = {part for key in meanings(path) if "_" in key for part in key.split("_")}
+    operators = {part for key, what in meanings(path).items() if "_" in key and ":" in what for part in key.split("_")}
     atoms = []
     for item in items:
         if type(item) is list:
@@ -231,16 +231,51 @@ def holds(tree, part):
     return tree == part or isinstance(tree, tuple) and any(holds(inner, part) for inner in tree)
 
 
+@cache
+def stated(path, pattern):
+    """What a file says from a pattern on, to the end of its indented lines, and what the modules around it bind; or
+    nothing, unless that is there once, at the margin or in modules alone."""
+    outer, found, within = [], [], False
+    for line in bare(path).splitlines():
+        indent = len(line) - len(line.lstrip())
+        if within and line.strip() and indent > outer[-1][0]:
+            found[-1] = (found[-1][0] + " " + line, found[-1][1])
+        elif line.strip():
+            module = re.match(r" *module \S+ (.*)where *$", line)
+            outer = [*((level, words) for level, words in outer if level < indent), (indent, module and module[1])]
+            within = re.match(rf" *{pattern}", line)
+            found += [(line[within.start(1) :], [words for _, words in outer[:-1]])] if within else []
+        else:
+            within = False
+    return found[0] if len(found) == 1 and None not in found[0][1] else None
+
+
+def bindings(items):
+    """The names that a text binds, those of them that are in parentheses, and how it goes on."""
+    names, explicit = [], []
+    while items and (items[0] == "→" or isinstance(items[0], list) and ":" in items[0]):
+        some = parted(items[0], ":")[0] if items[0] != "→" else []
+        names, explicit, items = names + some, explicit + some * (type(items[0]) is list), items[1:]
+    return names, explicit, items
+
+
+def abbreviated(tree):
+    """Where an expression's function is an abbreviation of the face's: its file, its names and its text."""
+    path, _, name = str(head(tree)).rpartition(":")
+    found = stated(path, rf"{re.escape(name)}((?: [\w′″-]+)* =)") if path.startswith(f"{FACE}/specs/") else None
+    if not found or not isinstance(tree, tuple):
+        return None
+    own, _, body = found[0].partition("=")
+    names = [*bindings(grouped(" ".join(found[1])))[1], *own.split()]
+    return (path, names, grouped(body)) if len(tree) > len(names) else None
+
+
 def unfolded(tree):
-    """An expression whose function is an abbreviation of the face's, written out."""
-    if not isinstance(tree, tuple) or not str(tree[0]).startswith(f"{FACE}/specs/"):
+    """An expression without abbreviations of the face's at its head."""
+    if not (found := abbreviated(tree)):
         return tree
-    path, _, name = tree[0].rpartition(":")
-    equation = rf"(?m)^{re.escape(name)}((?: [\w′″-]+)*) =(.*\n(?:[ \t]+.*\n)*)"
-    found = re.findall(equation, definitions(path).get(name, ""))
-    if len(found) != 1 or len(tree) <= len(names := found[0][0].split()):
-        return tree
-    body = replaced(expression(grouped(found[0][1]), path, set(names)), dict(zip(names, tree[1:])))
+    path, names, items = found
+    body = replaced(expression(items, path, set(names)), dict(zip(names, tree[1:])))
     return unfolded(applied(body, tree[1 + len(names) :]))
 
 
@@ -298,25 +333,20 @@ def contract_of(function):
 @cache
 def law_of(path, name):
     """A law of one answer as it is stated: for all names, from two promises to one equality or several."""
-    outer, stated = [], None
-    for line in bare(path).splitlines():
-        indent = len(line) - len(line.lstrip())
-        if stated is not None and (not line.strip() or indent <= outer[-1][0]):
-            break
-        if stated is not None:
-            stated += " " + line
-        elif line.strip():
-            # What this line stands within: only modules may be among that, and what they bind the law binds too.
-            module = re.match(r" *module \S+ (.*)where *$", line)
-            outer = [*((level, words) for level, words in outer if level < indent), (indent, module and module[1])]
-            if begun := re.match(rf" *(?:pub )?{re.escape(name)} :(.*)", line):
-                stated = begun[1]
-    if stated is None or None in [words for _, words in outer[:-1]]:
+    found = stated(path, rf"(?:pub )?{re.escape(name)} :( |$)")
+    if not found:
         raise Weak(f"{path} does not state it at the margin or in a module")
-    items, names = grouped(" ".join(words for _, words in outer[:-1]) + stated), []
-    while items and (items[0] == "→" or isinstance(items[0], list) and ":" in items[0]):
-        names += parted(items[0], ":")[0] if items[0] != "→" else []
-        items = items[1:]
+    names, _, items = bindings(grouped(" ".join([*found[1], found[0]])))
+    stands = {}
+    if "→" not in items and (short := abbreviated(tree := expression(items, path, set(names)))):
+        path, given, items = short
+        stands = dict(zip(given, tree[1:]))
+        more, _, items = bindings(items)
+        names = names + more
+
+    def said(items):
+        return normal(replaced(expression(items, path, {*names, *stands}), stands))
+
     parts = parted(items, "→")
     if len(parts) != 3 or meanings(path).get("_≡_") != EQUAL or "_×_" in meanings(path):
         raise Weak("it must go from two promises, and nothing more, to equalities")
@@ -324,10 +354,10 @@ def law_of(path, name):
     for part in parted(parts[2], "×"):
         while len(part) == 1 and type(part[0]) is list:
             part = part[0]
-        ends.append([expression(side, path, set(names)) for side in parted(part, "≡")])
+        ends.append([said(side) for side in parted(part, "≡")])
     if any(len(sides) != 2 for sides in ends):
         raise Weak("it must end in equalities alone")
-    return Law(names, *(normal(expression(part, path, set(names))) for part in parts[:2]), ends)
+    return Law(names, said(parts[0]), said(parts[1]), ends)
 
 
 def matched(pattern, tree, names, found):
@@ -341,22 +371,30 @@ def matched(pattern, tree, names, found):
 
 def check_law(law, function, contract):
     """That a law says of two answers which keep a function's very contract that they and the later buffers are one."""
-    one, two = {}, {}
+    one, two, answer = {}, {}, contract.answer
+    promise, later = contract.promise, {name: (".exit", name) for name in function.lent}
+    crate, place = function.path.split("/")[1], ".".join([*function.within, function.name])
+    if head(law.first) == f"Rattle.{crate}.proofs.{place}.Reads:Post":
+        # The contract as the checker reads it: of the lifetimes, the parameters, the answer, and the parameters after.
+        promise, later = (head(law.first), "κs", "a", answer, ".exit"), dict.fromkeys(function.lent, ".exit")
+        for name in later:
+            for _ in range(function.parameters.index(name)):
+                later[name] = (".1", later[name])
+            later[name] = (".0", later[name])
     for premise, found in ((law.first, one), (law.second, two)):
-        if not matched(premise, contract.promise, law.names, found):
+        if not matched(premise, promise, law.names, found):
             raise Weak("it is about another promise than the contract's")
     for name in law.names:
         if name not in one and name not in two:
             raise Weak(f"it asks for `{name}`, of which its promises do not speak")
-        if name in one and name in two:
-            if one[name] != two[name] or {contract.answer, ".exit"} & set(leaves(one[name])):
-                raise Weak(f"both its promises are of one `{name}`")
+        if name in one and name in two and (one[name] != two[name] or {answer, ".exit"} & set(leaves(one[name]))):
+            raise Weak(f"both its promises are of one `{name}`")
     ends = [(replaced(left, one), replaced(right, two)) for left, right in law.ends]
-    reference = "-> &" in function.signature
-    wanted = [("now", contract.answer), (".ptr", contract.answer)] if reference else [contract.answer]
-    for part in wanted + [("now", (".exit", name)) for name in function.lent]:
+    wanted = [("now", answer), (".ptr", answer)] if "-> &" in function.signature else [answer]
+    for part in wanted + [("now", after) for after in later.values()]:
         if (part, part) not in ends and ((WRAP, part), (WRAP, part)) not in ends:
-            raise Weak(f"it does not end in the equality of `{leaves(part)[-1]}`")
+            what = "the answers" if part in wanted else f"`{' and '.join(later)}`"
+            raise Weak(f"it does not end in the equality of {what}")
 
 
 def check_carried(function, contract, routine, promised):

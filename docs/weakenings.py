@@ -11,9 +11,23 @@ import contracts
 
 FACE, LOOKUP, LAWS = contracts.FACE, "crates/lookup/src/lib.rt", "crates/lookup/proofs/Promises.antt"
 LOOKUPS, INVERSES, TABLE = f"{FACE}/src/lookups.rt", f"{FACE}/src/inverses.rt", "crates/table/src/lib.rt"
-# What the check says of a contract.
+# How the check begins what it says.
 OF_LOOKUP, OF_BAKE = "lut_interp_linear16: its contract: ", "bg_bake: its contract: "
+OF_FACE = "its law of one answer, `bg-passthrough-one`: it"
 EXPORTED = r'#\[no_mangle\]\s+(pub extern "C" fn bg_bake\b)'
+CONTRACT = """use mathlib.Core.Path.{_≡_}
+use denote.Ref.{now}
+
+module _ {K A R E : Type 0} (Post : K → A → R → E → Type 0) where
+  abbrev pub One : {S : Type 0} → (E → S) → Type 0
+  One buffer = (κs : K) (a : A) (r s : R) (e f : E) → Post κs a r e → Post κs a s f → ENDS
+
+abbrev pub first : {S E : Type 0} → RefT S × E → S
+first e = now (e .0)
+
+abbrev pub second : {P S E : Type 0} → P × (RefT S × E) → S
+second e = now (e .1 .0)
+"""
 LEAK = "pub fn leak(x: u16) -> u16 {\n    x\n}\n"
 MORE = '#[no_mangle]\npub extern "C" fn bg_more(x: u16) -> u16\n    ensures { λ r. ⌜ r ≡ x ⌝ }\n{\n    x\n}\n'
 
@@ -43,6 +57,16 @@ def law(old, new):
 
 def more(path, added):
     return path, r"\Z", added
+
+
+def over(export, buffer="first", ends="(r ≡ s) × (buffer e ≡ buffer f)"):
+    """The law of `bg_passthrough_table_impl` stated over an export's contract as the checker reads it."""
+    used = "use Rattle.brassgroat.specs.Contract.{One, first, second}\n"
+    used += f"use Rattle.brassgroat.proofs.floats.{export}.Reads as it\n"
+    return [
+        (f"{FACE}/proofs/One.antt", r"\A(.*?\npub bg-passthrough-one :)[^\n]*", rf"{used}\1 One it.Post {buffer}"),
+        (f"{FACE}/specs/Contract.antt", None, CONTRACT.replace("ENDS", ends)),
+    ]
 
 
 # What each does; words of the fault that must be found; and its changes: a file, a pattern in it and what takes its
@@ -96,6 +120,9 @@ WEAKENINGS = [
     ("what it stands beneath does", "does not state it", (LAWS, r"\n(pub lookup-one :)", r"\nf h = few where\n  \1")),
     ("a law is a comment", "does not state it", (LAWS, r"\n(pub lookup-one :.*?\n)\n", r"\n{-\n\1-}\n")),
     ("a law is of one answer twice", "both", law(r"(.*? → )(LookupPromise [^\n]*?) → [^\n]*", r"\1\2 → \2 → r ≡ r")),
+    ("a law is over another export's contract", f"{OF_FACE} is about", *over("bg_lut_interp_linear")),
+    ("a law is of another buffer", f"{OF_FACE} does not end", *over("bg_passthrough_table_impl", buffer="second")),
+    ("what the face's laws say is less", f"{OF_FACE} does not end", *over("bg_passthrough_table_impl", ends="r ≡ r")),
     # Doors that are hard to see.
     ("an inner function is passed on", "lookup/src: a `pub use`", more(LOOKUP, "pub use inside::lookup;\n")),
     (
@@ -121,7 +148,7 @@ WEAKENINGS = [
         "`house::entries::curve` has no block",
         more("crates/house/src/lib.rt", "pub use entries::curve;\n"),
     ),
-    ("the face is called a program", "is the face", ("docs/PROMISES.md", "`narrowing`;", "`narrowing`, `brassgroat`;")),
+    ("the face is called a program", "is the face", ("docs/PROMISES.md", "`narrowing`;", "`narrowing`; `brassgroat`;")),
     # Pages that cite what is not there.
     ("an edit that is gone is cited", "`gone`", more("docs/HONESTY.md", "lookup/must-fail `gone`\n")),
     ("a law that is gone is cited", "`gone`", more("docs/SENTENCES.md", "table/proofs/Order `fact-test`,\n`gone`\n")),
@@ -139,7 +166,7 @@ def weakened(changes):
     held = {}
     for pattern, old, new in changes:
         for path in glob(pattern) if old else [pattern]:
-            content = contracts.text.__wrapped__(path) if old else None
+            content = contracts.text.__wrapped__(path) if os.path.exists(path) else None
             held.setdefault(path, content)
             write(path, re.sub(old, new, content, flags=re.DOTALL) if old else new)
     return held
