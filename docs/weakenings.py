@@ -1,5 +1,5 @@
-"""How contracts, laws, doors and pages could be weakened while every proof still passes: docs/check-promises
---self-test tries each on a copy of the tree, and demands that the check reports it.
+"""Ways to let contracts, laws, doors and pages say less than they seem to: docs/check-promises --self-test tries each on
+a copy of the tree, and demands that the check reports it.
 """
 import os
 import re
@@ -15,6 +15,7 @@ LOOKUPS, INVERSES, TABLE = f"{FACE}/src/lookups.rt", f"{FACE}/src/inverses.rt", 
 OF_LOOKUP, OF_BAKE = "lut_interp_linear16: its contract: ", "bg_bake: its contract: "
 OF_FACE = "its law of one answer, `bg-passthrough-one`: it"
 EXPORTED = r'#\[no_mangle\]\s+(pub extern "C" fn bg_bake\b)'
+# A law of one answer over any contract, and the buffers that it can be of.
 CONTRACT = """use mathlib.Core.Path.{_≡_}
 use denote.Ref.{now}
 
