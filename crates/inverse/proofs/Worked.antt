@@ -5,11 +5,12 @@ use mathlib.Core.List.{List, [], _∷_}
 use Prim.Native.Nat.{ℕ}
 use lib.Ieee.{ofInt, round, neg, add, sub, mul, div, lt, le}
 use Rattle.table.specs.Choice.{pick}
+use Rattle.table.specs.Runs.{run}
 use Rattle.lookup.specs.Lookup.{lookup16, weighted}
 use Rattle.rounding.specs.Cut.{floor, ceil}
 use Rattle.rounding.specs.Size.{abs}
 use Rattle.inverse_tail.specs.Tail.{cellOf, nodeOf, rounded, between, tail}
-use Rattle.inverse_start.specs.Start.{run, leadingZeros, trailingTops, zeroAtOnce, firstLeft, firstRight}
+use Rattle.inverse_start.specs.Start.{leadingZeros, trailingTops, zeroAtOnce, firstLeft, firstRight}
 use Rattle.inverse.specs.Inverse.{search, searched, inverted}
 
 -- the inverse of each of a list of values

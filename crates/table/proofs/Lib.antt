@@ -1,8 +1,9 @@
 -- Laws that every crate builds on. `Refusals` and `Answers`: a number and a value tell one answer. `Order`: what keeps a table nondecreasing.
--- `Fill`: buffers filled entry by entry. `Choice` and `Sizes`: what tests tell.
+-- `Fill`: buffers filled entry by entry. `Runs`: runs of equal entries. `Choice` and `Sizes`: what tests tell.
 pub mod Choice
 pub mod Sizes
 pub mod Refusals
 pub mod Answers
 pub mod Order
 pub mod Fill
+pub mod Runs

@@ -5,3 +5,4 @@ pub mod Answers
 pub mod Sizes
 pub mod Order
 pub mod Fill
+pub mod Runs
