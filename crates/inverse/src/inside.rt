@@ -1,5 +1,5 @@
-// The inverse's search, and its steps put together in the Rust's order. No door of the library, since `inverse` asks that
-// the table's length be tested and its ends counted.
+// The inverse's search, and its steps put together in the Rust's order. No door of the library, since `inverse` asks
+// that the table's length be tested and its ends counted.
 use inverse_start::inside::first_left;
 use inverse_start::inside::first_right;
 use inverse_start::inside::leading_zeros;

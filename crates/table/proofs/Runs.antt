@@ -22,8 +22,8 @@ module _ (y : ℕ) where
   unfolding run
   stops x l n = simp (ne-eqb x y n)
 
-  -- what the run is: it goes no further than the list, its entries all equal y, and where it stops before the end stands
-  -- another number
+  -- what the run is: it goes no further than the list, its entries all equal y, and where it stops before the end
+  -- stands another number
   pub run-within : (l : List ℕ) → run y l ≤ length l
   unfolding run
   run-within [] = zero-le
