@@ -1,4 +1,4 @@
--- `Runs`: what a run is, and the walk that counts it. `Promises`: the promise names one answer. `Worked`: the verdict at its edges.
+-- `Runs`: the walk that counts a run. `Promises`: the promise names one answer. `Worked`: the verdict at its edges.
 pub mod Runs
 pub mod Promises
 mod Worked

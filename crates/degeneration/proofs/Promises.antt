@@ -50,11 +50,9 @@ module _ (t : List ℕ) where
   degenerated-long e = record { number = simp e; yes = simp e }
 
   module _ (e : notAbove (length t) ≡ true) where
-    pub degenerated-yes : degenerated t ≡ true → DegeneratedPromise t Degenerated.Yes
-    degenerated-yes k = record { number = simp e; yes = simp (e, k) }
-
-    pub degenerated-no : degenerated t ≡ false → DegeneratedPromise t Degenerated.No
-    degenerated-no k = record { number = simp e; yes = simp (e, k) }
+    pub degenerated-judged : (b : Bool) → degenerated t ≡ b → DegeneratedPromise t (pick b Degenerated.Yes Degenerated.No)
+    degenerated-judged true k = record { number = simp e; yes = simp (e, k) }
+    degenerated-judged false k = record { number = simp e; yes = simp (e, k) }
 
   -- the answer that the promise names
   unfoldable pub degeneratedAnswer : Degenerated
@@ -63,9 +61,8 @@ module _ (t : List ℕ) where
 
   pub degenerated-answered : DegeneratedPromise t degeneratedAnswer
   unfolding degeneratedAnswer
-  degenerated-answered = go (notAbove (length t)) (degenerated t) refl refl
+  degenerated-answered = go (notAbove (length t)) refl
     where
-      go : (f m : Bool) → notAbove (length t) ≡ f → degenerated t ≡ m → DegeneratedPromise t (pick f (pick m Degenerated.Yes Degenerated.No) (Degenerated.Refused TableLength))
-      go false m e k = degenerated-long e
-      go true true e k = degenerated-yes e k
-      go true false e k = degenerated-no e k
+      go : (f : Bool) → notAbove (length t) ≡ f → DegeneratedPromise t (pick f (pick (degenerated t) Degenerated.Yes Degenerated.No) (Degenerated.Refused TableLength))
+      go false e = degenerated-long e
+      go true e = degenerated-judged e (degenerated t) refl

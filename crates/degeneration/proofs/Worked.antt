@@ -5,6 +5,7 @@ use Prim.Native.Nat.{ℕ}
 use native.Mathlib.Omega.{arith}
 use borrow.Author.Tests.{lt-leb}
 use lib.ListN.{length, replicate, length-replicate}
+use Rattle.table.specs.Runs.{run}
 use Rattle.table.specs.declared.Refusal.the-variants.{TableLength}
 use Rattle.degeneration.specs.Runs.{leading, degenerated}
 use Rattle.degeneration.specs.Promises.{DegeneratedPromise}
@@ -17,7 +18,7 @@ end-runs :
     × (degeneratedAnswer (replicate 20 5 ++ (6 ∷ [])) ≡ Degenerated.Yes)
     × (degeneratedAnswer (6 ∷ replicate 19 5) ≡ Degenerated.No)
     × (degeneratedAnswer (6 ∷ replicate 20 5) ≡ Degenerated.Yes)
-unfolding degeneratedAnswer degenerated leading
+unfolding degeneratedAnswer degenerated leading run
 end-runs = (refl, refl, refl, refl)
 
 -- five in a hundred at both ends are no run that counts, and twenty in the middle are none; fewer than two entries have none; twenty alike are one
@@ -27,7 +28,7 @@ no-percentage :
     × (degeneratedAnswer [] ≡ Degenerated.No)
     × (degeneratedAnswer (5 ∷ []) ≡ Degenerated.No)
     × (degeneratedAnswer (replicate 20 5) ≡ Degenerated.Yes)
-unfolding degeneratedAnswer degenerated leading
+unfolding degeneratedAnswer degenerated leading run
 no-percentage = (refl, refl, refl, refl, refl)
 
 -- 65,537 entries are refused

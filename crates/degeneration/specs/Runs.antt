@@ -1,15 +1,11 @@
 -- The run at each end of a table, counted over its entries, and when a table is degenerated. Assumes nothing.
-use Prim.Native.Nat.{ℕ, suc}
+use Prim.Native.Nat.{ℕ}
 use mathlib.Core.Bool.{Bool, true, false}
-use mathlib.Core.List.{List, [], _∷_, reverse}
+use mathlib.Core.List.{List, reverse}
 use lib.ListN.{length, getD}
-use lib.Dec.{ltb, leb, eqb}
+use lib.Dec.{ltb, leb}
 use Rattle.table.specs.Choice.{pick}
-
--- how many entries in a row, from the first on, equal x
-abbrev pub run : ℕ → List ℕ → ℕ
-run x [] = 0
-run x (y ∷ l) = pick (eqb y x) (suc (run x l)) 0
+use Rattle.table.specs.Runs.{run}
 
 -- the run equal to the first entry
 unfoldable pub leading : List ℕ → ℕ

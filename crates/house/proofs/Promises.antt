@@ -6,7 +6,7 @@ use Prim.Native.Nat.{ℕ, _≤_, _<_}
 use native.Mathlib.Omega.{arith}
 use borrow.Author.Tests.{le-leb, lt-leb, eq-eqb, ne-eqb}
 use lib.ListN.{length, getD}
-use Rattle.table.specs.Refusals.{Verdict, granted, refused}
+use Rattle.table.specs.Refusals.{Verdict, granted, refused, whenGranted}
 use Rattle.table.specs.Answers.{valueOfLooked}
 use Rattle.table.specs.declared.Density.{Density}
 use Rattle.table.specs.declared.Done.{Done}
@@ -14,7 +14,7 @@ use Rattle.table.specs.declared.Looked.{Looked}
 use Rattle.table.specs.declared.Refusal.the-variants.{IndexBeyond, OutputLength}
 use Rattle.table.proofs.Answers.{same-looked, same-done}
 use Rattle.house.specs.House.{IsEntry, IsHouse}
-use Rattle.house.specs.Promises.{whenGranted, entryVerdict, EntryPromise, fillVerdict, FillPromise}
+use Rattle.house.specs.Promises.{entryVerdict, EntryPromise, fillVerdict, FillPromise}
 use Rattle.house.proofs.Rule.{one-entry, one-house}
 
 one-value : (v : Verdict) (i a b : ℕ) → whenGranted v (IsEntry i a) (a ≡ 0) → whenGranted v (IsEntry i b) (b ≡ 0) → a ≡ b

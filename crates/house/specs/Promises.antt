@@ -5,17 +5,12 @@ use mathlib.Core.Path.{_≡_}
 use mathlib.Core.List.{List}
 use lib.ListN.{length}
 use lib.Dec.{leb, eqb}
-use Rattle.table.specs.Refusals.{Verdict, granted, refused, rung, numberIn}
+use Rattle.table.specs.Refusals.{Verdict, granted, rung, numberIn, whenGranted}
 use Rattle.table.specs.Answers.{numberOfDone, numberOfLooked, valueOfLooked}
 use Rattle.table.specs.declared.Done.{Done}
 use Rattle.table.specs.declared.Looked.{Looked}
 use Rattle.table.specs.declared.Refusal.the-variants.{IndexBeyond, OutputLength}
 use Rattle.house.specs.House.{IsEntry, IsHouse}
-
--- what holds where the call is granted, and what where it is refused: for a value that it is 0, for a lent buffer that it is what it was
-abbrev pub whenGranted : Verdict → Type 0 → Type 0 → Type 0
-whenGranted granted fact otherwise = fact
-whenGranted (refused why) fact otherwise = otherwise
 
 -- One entry: refused for an index above 1,023, 3.
 abbrev pub entryVerdict : ℕ → Verdict

@@ -108,7 +108,7 @@ module _ (t : List ℕ) (v : ℕ) where
         ∙ fuel-enough (r - l) (r - (middle l r + 1)) (middle l r + 1) r (middle l r) (omega arith) (le-refl (r - (middle l r + 1)))
 
   -- ---- every x that is probed is from 1 to 65535
-  pub probe-low : (l r : ℕ) → Ready t v l r → l < r → 1 ≤ middle l r
+  pub probe-low : (l r : ℕ) → Ready t v l r → l ≤ r → 1 ≤ middle l r
   probe-low l r s h = ⊎-elim (λ (e : l ≡ 0). omega (arith, s .apart e)) (λ (p : 0 < l). omega arith) (eq-zero-or-pos l)
 
   pub probe-high : (l r : ℕ) → Ready t v l r → l < r → middle l r ≤ 65535
@@ -137,10 +137,10 @@ module _ (t : List ℕ) (v : ℕ) where
     | hit h e ↦ subst (Sound t v) (sym (from-hit l r last h e)) (e, omega (arith, probe-high l r s h))
     | left h a ↦
         subst (Sound t v) (sym (from-left l r last h a))
-        (from-sound k l (middle l r - 1) (middle l r) (omega arith) (ready-left l r s h a) (λ _. (probe-low l r s h, probe-high l r s h)))
+        (from-sound k l (middle l r - 1) (middle l r) (omega arith) (ready-left l r s h a) (λ _. (probe-low l r s (omega arith), probe-high l r s h)))
     | right h b ↦
         subst (Sound t v) (sym (from-right l r last h b))
-        (from-sound k (middle l r + 1) r (middle l r) (omega arith) (ready-right l r s h) (λ _. (probe-low l r s h, probe-high l r s h)))
+        (from-sound k (middle l r + 1) r (middle l r) (omega arith) (ready-right l r s h) (λ _. (probe-low l r s (omega arith), probe-high l r s h)))
   ]
 
   pub searched-sound : (l r : ℕ) → Ready t v l r → l < r → Sound t v (searched t v l r)

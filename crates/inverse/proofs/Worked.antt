@@ -5,11 +5,12 @@ use mathlib.Core.List.{List, [], _∷_}
 use Prim.Native.Nat.{ℕ}
 use lib.Ieee.{ofInt, round, neg, add, sub, mul, div, lt, le}
 use Rattle.table.specs.Choice.{pick}
-use Rattle.lookup.specs.Lookup.{lookup16, weighted}
+use Rattle.table.specs.Runs.{run}
+use Rattle.lookup.specs.Lookup.{lookup16, lookedUp, weighted}
 use Rattle.rounding.specs.Cut.{floor, ceil}
 use Rattle.rounding.specs.Size.{abs}
 use Rattle.inverse_tail.specs.Tail.{cellOf, nodeOf, rounded, between, tail}
-use Rattle.inverse_start.specs.Start.{run, leadingZeros, trailingTops, zeroAtOnce, firstLeft, firstRight}
+use Rattle.inverse_start.specs.Start.{leadingZeros, trailingTops, zeroAtOnce, firstLeft, firstRight}
 use Rattle.inverse.specs.Inverse.{search, searched, inverted}
 
 -- the inverse of each of a list of values
@@ -26,6 +27,13 @@ case-6 = refl
 case-11 : each (65535 ∷ 65535 ∷ []) (7 ∷ []) ≡ 0 ∷ []
 unfolding each
 case-11 = refl
+
+-- The last candidate, r = l, is not probed. Here it is x = 34407, and x - 1 looks up as the value: probed, it would be
+-- a hit, and the answer 34406.
+last-not-probed :
+    (each (0 ∷ 100 ∷ 65535 ∷ []) (3371 ∷ []) ≡ 34405 ∷ []) × (lookedUp (0 ∷ 100 ∷ 65535 ∷ []) 34406 ≡ 3371)
+unfolding each lookup16 weighted
+last-not-probed = (refl, refl)
 
 -- a table of one entry never divides by n - 1
 one-entry : each (5 ∷ []) (0 ∷ 3 ∷ 5 ∷ 9 ∷ []) ≡ 0 ∷ 2 ∷ 32767 ∷ 65535 ∷ []

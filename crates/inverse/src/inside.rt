@@ -1,4 +1,5 @@
-// The inverse's search, and its steps put together in the Rust's order. No door of the library, since `inverse` asks that the table's length be tested.
+// The inverse's search, and its steps put together in the Rust's order. No door of the library, since `inverse` asks
+// that the table's length be tested and its ends counted.
 use inverse_start::inside::first_left;
 use inverse_start::inside::first_right;
 use inverse_start::inside::leading_zeros;
@@ -11,7 +12,23 @@ ghost use mathlib.Core.Bool.{true};
 ghost use lib.ListN.{length};
 ghost use Rattle.table.specs.Sizes.{sized};
 ghost use Rattle.inverse.specs.Inverse.{searched, inverted};
-ghost use Rattle.inverse.specs.Inside.{Ready};
+ghost use Rattle.inverse.specs.Inside.{EndsOf, Ready};
+
+// The runs at a table's ends: document 01's z, the leading 0 entries, and w, the trailing 65535 entries.
+pub struct Ends {
+    pub z: usize,
+    pub w: usize,
+}
+
+// Counted once for a table, however many values are asked of it. The Rust counts them for each.
+pub fn ends_of(table: &[u16]) -> Ends
+    ensures { λ r. ⌜ EndsOf (now (table .entry)) r ⌝ }
+{
+    Ends {
+        z: leading_zeros(table),
+        w: trailing_tops(table),
+    }
+}
 
 // What the search comes to: the position of its first exact hit, or, with none, the x that it probed last.
 enum Found {
@@ -48,18 +65,17 @@ fn search(table: &[u16], v: u16, left: usize, right: usize) -> Found
     found
 }
 
-// The inverse, for whoever has tested the table's length.
-pub fn inverse(table: &[u16], v: u16) -> u16
+// The inverse, for whoever has tested the table's length and counted its ends.
+pub fn inverse(table: &[u16], ends: Ends, v: u16) -> u16
     requires { ⌜ sized (length (now table)) ≡ true ⌝ }
+    requires { ⌜ EndsOf (now table) ends ⌝ }
     ensures { λ r. ⌜ r ≡ inverted (now (table .entry)) v ⌝ }
 {
-    let z = leading_zeros(table);
-    let w = trailing_tops(table);
-    if zero_at_once(v, z, w) {
+    if zero_at_once(v, ends.z, ends.w) {
         return 0;
     }
-    let l = first_left(table.len(), z);
-    let r = first_right(table.len(), w);
+    let l = first_left(table.len(), ends.z);
+    let r = first_right(table.len(), ends.w);
     if r <= l {
         return 0;
     }

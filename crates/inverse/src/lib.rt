@@ -15,5 +15,5 @@ pub fn lut_inverse_interp16(table: &[u16], value: Density) -> Sought
     if !sized(table.len()) {
         return Sought::Refused(Refusal::TableLength);
     }
-    Sought::At(Drive(inside::inverse(table, value.0)))
+    Sought::At(Drive(inside::inverse(table, inside::ends_of(table), value.0)))
 }

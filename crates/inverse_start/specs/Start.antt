@@ -1,30 +1,21 @@
 -- What document 01's inverse, `lut_inverse_interp16`, does before its search, step by step, in its letters: a table of n entries, a value v. Assumes nothing.
-use Prim.Native.Nat.{ℕ, zero, suc, _+_, _-_, _*_, _/_}
+use Prim.Native.Nat.{ℕ, _-_, _*_, _/_}
 use mathlib.Core.Bool.{Bool, true}
-use mathlib.Core.List.{List}
-use lib.ListN.{length, getD}
+use mathlib.Core.List.{List, reverse}
+use lib.ListN.{length}
 use lib.IntN.{ℤ, pos, negsuc, _+ℤ_, _-ℤ_, _*ℤ_}
 use lib.Signed.{quotZ}
 use lib.Dec.{ltb, eqb}
 use Rattle.table.specs.Choice.{pick, both}
-use Rattle.lookup.specs.Lookup.{entriesOf}
-
--- how many of the n entries T 0, T 1, .. are y before one is not
-unfoldable pub run : ℕ → (ℕ → ℕ) → ℕ → ℕ
-run y T zero = 0
-run y T (suc n) = pick (eqb (T 0) y) (run y (λ i. T (suc i)) n + 1) 0
-
--- the entries from the last one back
-abbrev pub fromEnd : List ℕ → ℕ → ℕ
-fromEnd t i = getD t (length t - 1 - i) 0
+use Rattle.table.specs.Runs.{run}
 
 -- z counts leading 0 entries
 unfoldable pub leadingZeros : List ℕ → ℕ
-leadingZeros t = run 0 (entriesOf t) (length t)
+leadingZeros t = run 0 t
 
 -- w counts trailing 65535 entries
 unfoldable pub trailingTops : List ℕ → ℕ
-trailingTops t = run 65535 (fromEnd t) (length t)
+trailingTops t = run 65535 (reverse t)
 
 -- value 0 with z = 0 answers 0; if z > 1 or w > 1, value 0 answers 0
 unfoldable pub zeroAtOnce : ℕ → ℕ → ℕ → Bool

@@ -51,6 +51,9 @@ pub fn tail(table: &[u16], x: u16, v: u16) -> u16
     requires { ⌜ 0 < x ⌝ }
     ensures { λ r. ⌜ r ≡ tail (now (table .entry)) x v ⌝ }
 {
-    let place = ((table.len() - 1) as f64) * (((x - 1) as f64) / 65535.0);
-    between(table, x, v, floor_f64(place), ceil_f64(place))
+    let p = x - 1;
+    let place = ((table.len() - 1) as f64) * ((p as f64) / 65535.0);
+    let cell0 = floor_f64(place);
+    let cell1 = ceil_f64(place);
+    between(table, x, v, cell0, cell1)
 }

@@ -1,4 +1,5 @@
 // A whole table inverted by the ported inverse.
+use inverse::inside::ends_of;
 use inverse::inside::inverse;
 use rounding::inside::floor_f64;
 use table::Done;
@@ -18,11 +19,12 @@ fn fill_inverted(table: &[u16], out: &mut [u16])
     requires { ⌜ spanned (length (now out)) ≡ true ⌝ }
     ensures { λ _. ⌜ now (out .exit) ≡ invertedOf (now (table .entry)) (length (now (out .entry))) ⌝ }
 {
+    let ends = ends_of(table);
     let scale = 65535.0 / ((out.len() - 1) as f64);
     let mut i = 0;
     while i < out.len() {
         let input = floor_f64((i as f64) * scale + 0.5) as u16;
-        out[i] = inverse(table, input);
+        out[i] = inverse(table, ends, input);
         i += 1;
     }
 }

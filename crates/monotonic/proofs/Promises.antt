@@ -35,11 +35,9 @@ module _ (t : List ℕ) (d : Direction) where
   monotonic-long e = record { number = simp e; yes = simp e; count = simp e }
 
   module _ (e : notAbove (length t) ≡ true) (v : ℕ) (c : v ≡ violations d t) where
-    pub monotonic-yes : fewEnough (length t) v ≡ true → MonotonicPromise t d (Monotonic.Yes v)
-    monotonic-yes f = record { number = simp e; yes = simp (e, ← c, f); count = simp (e, c) }
-
-    pub monotonic-no : fewEnough (length t) v ≡ false → MonotonicPromise t d (Monotonic.No v)
-    monotonic-no f = record { number = simp e; yes = simp (e, ← c, f); count = simp (e, c) }
+    pub monotonic-judged : (b : Bool) → fewEnough (length t) v ≡ b → MonotonicPromise t d (pick b (Monotonic.Yes v) (Monotonic.No v))
+    monotonic-judged true f = record { number = simp e; yes = simp (e, ← c, f); count = simp (e, c) }
+    monotonic-judged false f = record { number = simp e; yes = simp (e, ← c, f); count = simp (e, c) }
 
   -- the answer that the promise names
   unfoldable pub monotonicAnswer : Monotonic
@@ -50,9 +48,8 @@ module _ (t : List ℕ) (d : Direction) where
 
   pub monotonic-answered : MonotonicPromise t d monotonicAnswer
   unfolding monotonicAnswer
-  monotonic-answered = go (notAbove (length t)) (monotonic d t) refl refl
+  monotonic-answered = go (notAbove (length t)) refl
     where
-      go : (f m : Bool) → notAbove (length t) ≡ f → monotonic d t ≡ m → MonotonicPromise t d (pick f (pick m (Monotonic.Yes (violations d t)) (Monotonic.No (violations d t))) (Monotonic.Refused TableLength))
-      go false m e k = monotonic-long e
-      go true true e k = monotonic-yes e (violations d t) refl k
-      go true false e k = monotonic-no e (violations d t) refl k
+      go : (f : Bool) → notAbove (length t) ≡ f → MonotonicPromise t d (pick f (pick (monotonic d t) (Monotonic.Yes (violations d t)) (Monotonic.No (violations d t))) (Monotonic.Refused TableLength))
+      go false e = monotonic-long e
+      go true e = monotonic-judged e (violations d t) refl (monotonic d t) refl

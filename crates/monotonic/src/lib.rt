@@ -3,7 +3,8 @@ use table::Refusal;
 use table::inside::entry;
 use table::not_above;
 ghost use mathlib.Core.Path.{_≡_};
-ghost use Prim.Native.Nat.{_≤_};
+ghost use Prim.Native.Nat.{_*_, _≤_};
+ghost use lib.Dec.{ltb};
 ghost use Rattle.monotonic.specs.Steps.{yesNo, against, violations, fewEnough};
 ghost use Rattle.monotonic.specs.Promises.{MonotonicPromise};
 
@@ -43,7 +44,15 @@ fn violations(table: &[u16], direction: Direction) -> usize
     count
 }
 
-// Whether so many steps against the direction are few enough for n entries: fewer than one in twenty.
+// Whether the steps against the direction are fewer than one in twenty of n.
+fn below_a_twentieth(n: usize, count: usize) -> bool
+    requires { ⌜ count ≤ 65536 ⌝ }
+    ensures { λ r. ⌜ r ≡ ltb (20 * count) n ⌝ }
+{
+    20 * count < n
+}
+
+// Whether so many steps against the direction are few enough for n entries.
 fn few_enough(n: usize, count: usize) -> bool
     requires { ⌜ count ≤ 65536 ⌝ }
     ensures { λ r. ⌜ r ≡ fewEnough n count ⌝ }
@@ -51,7 +60,7 @@ fn few_enough(n: usize, count: usize) -> bool
     if n < 2 {
         return true;
     }
-    20 * count < n
+    below_a_twentieth(n, count)
 }
 
 // Whether the curve goes that way, with the steps that are against it.

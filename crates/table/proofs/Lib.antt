@@ -1,5 +1,5 @@
 -- Laws that every crate builds on. `Refusals` and `Answers`: a number and a value tell one answer. `Order`: what keeps a table nondecreasing.
--- `Fill`: buffers filled entry by entry. `Quotient`: rounding up. `Choice` and `Sizes`: what tests tell.
+-- `Fill`: buffers filled entry by entry. `Quotient`: rounding up. `Runs`: runs of equal entries. `Choice` and `Sizes`: what tests tell.
 pub mod Choice
 pub mod Sizes
 pub mod Refusals
@@ -7,3 +7,4 @@ pub mod Answers
 pub mod Order
 pub mod Fill
 pub mod Quotient
+pub mod Runs

@@ -6,3 +6,4 @@ pub mod Sizes
 pub mod Order
 pub mod Quotient
 pub mod Fill
+pub mod Runs

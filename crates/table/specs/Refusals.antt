@@ -40,3 +40,8 @@ numberIn (refused why) = numberOf why
 abbrev pub ifGranted : {A : Type 0} → Verdict → A → A → A
 ifGranted granted given otherwise = given
 ifGranted (refused why) given otherwise = otherwise
+
+-- the same of facts: what holds where the call is granted, and what otherwise
+abbrev pub whenGranted : Verdict → Type 0 → Type 0 → Type 0
+whenGranted granted fact otherwise = fact
+whenGranted (refused why) fact otherwise = otherwise

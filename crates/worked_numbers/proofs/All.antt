@@ -3,6 +3,7 @@ use mathlib.Core.Path.{refl}
 use lib.Ieee.{ofInt, round, neg, add, sub, mul, div, lt, le}
 use Rattle.table.specs.Sizes.{within}
 use Rattle.table.specs.Fill.{tabulated}
+use Rattle.table.specs.Runs.{run}
 use Rattle.lookup.specs.Lookup.{weighted, lookup16}
 use Rattle.gamma.specs.Gamma.{gammaUnit, gamma}
 use Rattle.curve.specs.Ramp.{ramp}
@@ -10,7 +11,7 @@ use Rattle.least.specs.Least.{first, leastOf}
 use Rattle.rounding.specs.Cut.{floor, ceil}
 use Rattle.rounding.specs.Size.{abs}
 use Rattle.inverse_tail.specs.Tail.{cellOf, nodeOf, rounded, between, tail}
-use Rattle.inverse_start.specs.Start.{run, leadingZeros, trailingTops, zeroAtOnce, firstLeft, firstRight}
+use Rattle.inverse_start.specs.Start.{leadingZeros, trailingTops, zeroAtOnce, firstLeft, firstRight}
 use Rattle.inverse.specs.Inverse.{search, searched, inverted}
 use Rattle.worked_numbers.specs.Thirteen.{Thirteen}
 

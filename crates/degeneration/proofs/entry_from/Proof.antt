@@ -2,8 +2,8 @@
 use mathlib.Core.Path.{_≡_, _∙_, sym}
 use denote.Ref.{now}
 use borrow.Author.Needs.{needs}
+use Rattle.table.proofs.Runs.{getD-reverse}
 use Rattle.degeneration.specs.declared.End.{End}
-use Rattle.degeneration.proofs.Runs.{getD-reverse}
 use Rattle.degeneration.proofs.entry_from.Statement.{statement}
 use Rattle.degeneration.proofs.entry_from.Tie as tie
 

@@ -1,4 +1,4 @@
--- `run` meets its contract. The invariant: the entries passed are all in the run, and with those of it to come they are the whole. Assumes nothing.
+-- `run` meets its contract. The invariant: the entries passed are all in the run. Assumes nothing.
 use mathlib.Core.Path.{_∙_, sym}
 use Prim.Native.Nat.{_-_}
 use native.Mathlib.Omega.{arith}
@@ -25,7 +25,7 @@ entry-from-requires-2 c κs = omega arith
 returns : tie.Need-returns Inv-loop μ-loop
 returns c =
     let l = c .before .before in
-    passed-stop _ _ _ _ (l .before .loop .inv) (l .loop-test .taken) (λ e. c .if1 .taken (c .before .entry-from2 .ensures ∙ e))
+    passed-stop _ _ _ _ (l .before .loop .inv) (λ e. c .if1 .taken (c .before .entry-from2 .ensures ∙ e))
 
 add-i : tie.Need-add-i Inv-loop μ-loop
 add-i c = omega arith

@@ -16,10 +16,10 @@ use Rattle.invert.proofs.fill_inverted.Statement.{statement}
 use Rattle.invert.proofs.fill_inverted.Tie as tie
 
 abbrev Inv-loop : tie.InvT-loop
-Inv-loop table out₀ scale i₀ out i = Filling (invertedAt table (length out₀)) out₀ i out
+Inv-loop table out₀ ends scale i₀ out i = Filling (invertedAt table (length out₀)) out₀ i out
 
 abbrev μ-loop : tie.MeasureT-loop
-μ-loop table out₀ scale i₀ out i = length out₀ - i
+μ-loop table out₀ ends scale i₀ out i = length out₀ - i
 
 two : (c : tie.Start Inv-loop μ-loop) → 2 ≤ length (now (c .args .out))
 two c = within-low 2 65536 _ (c .pre .1)
@@ -27,15 +27,18 @@ two c = within-low 2 65536 _ (c .pre .1)
 most : (c : tie.Start Inv-loop μ-loop) → length (now (c .args .out)) ≤ 65536
 most c = within-high 2 65536 _ (c .pre .1)
 
-inside : (c : tie.In-loop Inv-loop μ-loop) → c .before .loop .i < length (now (c .before .before .before .before .before .args .out))
+inside : (c : tie.In-loop Inv-loop μ-loop) → c .before .loop .i < length (now (c .before .before .before .before .before .before .args .out))
 inside c = omega arith
 
+ends-of-requires : tie.Need-ends-of-requires Inv-loop μ-loop
+ends-of-requires c κs = search needs
+
 sub-scale : tie.Need-sub-scale Inv-loop μ-loop
-sub-scale c = omega (arith, two (c .before .before))
+sub-scale c = omega (arith, two (c .before .before .before))
 
 int-to-float-scale : tie.Need-int-to-float-scale Inv-loop μ-loop
 int-to-float-scale c =
-    let s = c .before .before .before in
+    let s = c .before .before .before .before in
     let k : length (now (s .args .out)) - 1 ≤ 65536 = omega (arith, most s) in
     in-float binary64 _ k
 
@@ -44,23 +47,25 @@ loop-holds c = filling-start _ _
 
 int-to-float-floor-f64 : tie.Need-int-to-float-floor-f64 Inv-loop μ-loop
 int-to-float-floor-f64 c =
-    let s = c .before .before .before .before .before .before in
+    let s = c .before .before .before .before .before .before .before in
     let k : c .before .before .loop .i ≤ 65536 = omega (arith, inside (c .before), most s) in
     in-float binary64 _ k
 
 floor-f64-requires : tie.Need-floor-f64-requires Inv-loop μ-loop
 floor-f64-requires c κs =
-    let s = c .before .before .before .before .before .before in
+    let s = c .before .before .before .before .before .before .before in
     question-asks (length (now (s .args .out))) (c .before .before .loop .i) (two s) (most s) (inside (c .before))
 
 cast-input : tie.Need-cast-input Inv-loop μ-loop
 cast-input c =
     let l = c .before .before in
-    let s = l .before .before .before .before .before in
+    let s = l .before .before .before .before .before .before in
     omega (arith, question-small (length (now (s .args .out))) (l .before .loop .i) (two s) (most s) (inside l) (c .floor-f64 .ensures))
 
 inverse-requires : tie.Need-inverse-requires Inv-loop μ-loop
-inverse-requires c κs = c .before .before .before .before .before .before .before .pre .0
+inverse-requires c κs =
+    let e = c .before .before .before .before .before in
+    (e .before .before .before .pre .0, e .ends-of .ensures)
 
 mul-out : tie.Need-mul-out Inv-loop μ-loop
 mul-out c = search needs
@@ -77,7 +82,7 @@ loop-less c = omega (arith, inside (c .before .before .before))
 loop-again : tie.Need-loop-again Inv-loop μ-loop
 loop-again c =
     let l = c .before .before .before in
-    let s = l .before .before .before .before .before in
+    let s = l .before .before .before .before .before .before in
     let e = question-asked (length (now (s .args .out))) (l .before .loop .i) (two s) (most s) (inside l) (c .before .floor-f64 .ensures) in
     filling-more _ (l .before .loop .inv) (inside l) (c .inverse .ensures ∙ ap (inverted (now (s .args .table))) e)
 
@@ -93,6 +98,7 @@ fill-inverted-spec =
     (tie.spec
     Inv-loop
     μ-loop
+    ends-of-requires
     sub-scale
     int-to-float-scale
     loop-holds

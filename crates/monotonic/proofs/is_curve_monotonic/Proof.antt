@@ -3,11 +3,12 @@ use mathlib.Core.Path.{_∙_, sym}
 use native.Mathlib.Omega.{arith}
 use borrow.Author.Needs.{needs}
 use borrow.Author.Tests.{leb-true}
+use mathlib.Core.Bool.{true, false}
 use lib.ListN.{length}
 use denote.Ref.{now}
 use Rattle.table.proofs.Choice.{fails, holds}
 use Rattle.monotonic.proofs.Steps.{violations-few}
-use Rattle.monotonic.proofs.Promises.{monotonic-long, monotonic-yes, monotonic-no}
+use Rattle.monotonic.proofs.Promises.{monotonic-long, monotonic-judged}
 use Rattle.monotonic.proofs.is_curve_monotonic.Statement.{statement}
 use Rattle.monotonic.proofs.is_curve_monotonic.Tie as tie
 
@@ -29,13 +30,13 @@ few-enough-requires c κs =
 returns-2 : tie.Need-returns-2
 returns-2 c =
     let v = c .before .before in
-    monotonic-yes _ _ (holds (v .before .before .not-above .ensures) (v .before .if1 .left)) _ (v .violations .ensures)
+    monotonic-judged _ _ (holds (v .before .before .not-above .ensures) (v .before .if1 .left)) _ (v .violations .ensures) true
     (sym (c .before .few-enough .ensures) ∙ c .if2 .taken)
 
 returns-3 : tie.Need-returns-3
 returns-3 c =
     let v = c .before .before in
-    monotonic-no _ _ (holds (v .before .before .not-above .ensures) (v .before .if1 .left)) _ (v .violations .ensures)
+    monotonic-judged _ _ (holds (v .before .before .not-above .ensures) (v .before .if1 .left)) _ (v .violations .ensures) false
     (sym (c .before .few-enough .ensures) ∙ c .if2 .left)
 
 pub is-curve-monotonic-spec : {M : Type 1} → statement M

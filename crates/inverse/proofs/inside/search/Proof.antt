@@ -29,7 +29,7 @@ add-x : tie.Need-add-x Inv-loop μ-loop
 add-x c = omega (arith, c .before .loop .inv .0 .high)
 
 sub-p : tie.Need-sub-p Inv-loop μ-loop
-sub-p c = probe-low _ _ _ _ (c .before .loop .inv .0) (c .if1 .left)
+sub-p c = probe-low _ _ _ _ (c .before .loop .inv .0) (omega arith)
 
 cast-p : tie.Need-cast-p Inv-loop μ-loop
 cast-p c = omega (arith, c .before .loop .inv .0 .high)
@@ -42,7 +42,7 @@ lookup-to-requires c κs =
 sub-r : tie.Need-sub-r Inv-loop μ-loop
 sub-r c =
     let e = c .before .before .before in
-    let low = probe-low _ _ _ _ (e .before .loop .inv .0) (e .if1 .left) in
+    let low = probe-low _ _ _ _ (e .before .loop .inv .0) (omega arith) in
     omega arith
 
 loop-less : tie.Need-loop-less Inv-loop μ-loop
@@ -70,7 +70,7 @@ loop-again-2 c =
     (ready-right _ _ _ _ (i .0) (e .if1 .left), sym (from-right _ _ _ _ _ (e .if1 .left) b) ∙ i .1, probe-high _ _ _ _ (i .0) (e .if1 .left))
 
 returns : tie.Need-returns Inv-loop μ-loop
-returns c = sym (from-over _ _ _ _ _ (c .if1 .taken)) ∙ c .before .loop .inv .1
+returns c = sym (from-over _ _ _ _ _ (omega arith)) ∙ c .before .loop .inv .1
 
 returns-2 : tie.Need-returns-2 Inv-loop μ-loop
 returns-2 c =

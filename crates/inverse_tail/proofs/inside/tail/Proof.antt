@@ -20,6 +20,9 @@ few c = within-high 1 65536 _ (c .pre .0)
 small : (c : tie.Start) → c .args .x ≤ 65536
 small c = omega arith
 
+sub-p : tie.Need-sub-p
+sub-p c = search needs
+
 sub-place : tie.Need-sub-place
 sub-place c = some (c .before)
 
@@ -28,9 +31,6 @@ int-to-float-place c =
     let s = c .before .before in
     let k : length (now (s .args .table)) - 1 ≤ 65536 = omega (arith, few s) in
     in-float binary64 _ k
-
-sub-place-2 : tie.Need-sub-place-2
-sub-place-2 c = search needs
 
 int-to-float-place-2 : tie.Need-int-to-float-place-2
 int-to-float-place-2 c = search needs
@@ -59,9 +59,9 @@ pub tail-spec : {M : Type 1} → statement M
 tail-spec =
     tie.close
     (tie.spec
+    sub-p
     sub-place
     int-to-float-place
-    sub-place-2
     int-to-float-place-2
     floor-f64-requires
     ceil-f64-requires
