@@ -64,10 +64,10 @@ use Rattle.plain_answers.specs.declared.Monotony.{Monotony}
 use Rattle.plain_answers.specs.declared.Degeneration.{Degeneration}
 use Rattle.plain_answers.specs.declared.Count.{Count}
 use Rattle.brassgroat.specs.declared.curv_tags.Part.{Part}
-use Rattle.plain_answers.specs.declared.Raw.{Raw}
+use Rattle.para.specs.declared.Numbers.{Numbers}
 use Rattle.plain_answers.specs.declared.Para.{Para}
 use Rattle.brassgroat.specs.Carried.{Carried, PartCarried}
-use Rattle.plain_answers.specs.Answers.{asSample, asPosition, asCode, asReal, asParametric, asDirection, asMonotony, asDegeneration, asCount, fromRaw, asPara}
+use Rattle.plain_answers.specs.Answers.{asSample, asPosition, asCode, asReal, asParametric, asDirection, asMonotony, asDegeneration, asCount, asPara}
 
 -- One answer of the library is one of the face; and so it is beside a later state.
 module _ {L R : Type 0} {places : L → R} {r s : R} where
@@ -164,7 +164,7 @@ module _ {b : List ℕ} where
 pub bg-write-curv-one : {t out out′ out″ : List ℕ} {r s : ℕ} → Carried numberOfDone (λ d. curv-writer.WritePromise t out d out′) r → Carried numberOfDone (λ d. curv-writer.WritePromise t out d out″) s → (r ≡ s) × (out′ ≡ out″)
 bg-write-curv-one = one-both (λ a b x y. curv-writer-laws.write-one x y)
 
-pub bg-write-para-one : {t : ℕ} {m : Raw} {out out′ out″ : List ℕ} {r s : ℕ} → Carried numberOfDone (λ d. para-writer.WritePromise t (fromRaw m) out d out′) r → Carried numberOfDone (λ d. para-writer.WritePromise t (fromRaw m) out d out″) s → (r ≡ s) × (out′ ≡ out″)
+pub bg-write-para-one : {t : ℕ} {m : Numbers} {out out′ out″ : List ℕ} {r s : ℕ} → Carried numberOfDone (λ d. para-writer.WritePromise t m out d out′) r → Carried numberOfDone (λ d. para-writer.WritePromise t m out d out″) s → (r ≡ s) × (out′ ≡ out″)
 bg-write-para-one = one-both (λ a b x y. para-writer-laws.write-one x y)
 
 -- The part of a tag: two starts that lead to one place are one.

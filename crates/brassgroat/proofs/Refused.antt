@@ -28,7 +28,7 @@ use Rattle.plain_answers.specs.declared.Count.{Count}
 use Rattle.brassgroat.specs.declared.curv_tags.Part.{Part}
 use Rattle.plain_answers.specs.declared.Para.{Para}
 use Rattle.brassgroat.specs.Carried.{Carried, PartCarried}
-use Rattle.plain_answers.specs.Answers.{asSample, asPosition, asCode, asReal, asCurve, asParametric, asRaw, asMonotony, asDegeneration, asCount, asPara}
+use Rattle.plain_answers.specs.Answers.{asSample, asPosition, asCode, asReal, asParametric, asMonotony, asDegeneration, asCount, asPara}
 use Rattle.brassgroat.proofs.Parts.{part-refused}
 use Rattle.brassgroat.proofs.One.{bg-part-one}
 
@@ -55,7 +55,7 @@ abbrev pub bareReal : ℕ → Real
 bareReal n = record { refusal = n; value = nought }
 
 abbrev pub bareParametric : ℕ → Parametric
-bareParametric n = record { refusal = n; curve = asCurve noCurve }
+bareParametric n = record { refusal = n; curve = noCurve }
 
 abbrev pub bareMonotony : ℕ → Monotony
 bareMonotony n = record { refusal = n; yes = false; violations = 0 }
@@ -67,7 +67,7 @@ abbrev pub bareCount : ℕ → Count
 bareCount n = record { refusal = n; entries = 0 }
 
 abbrev pub barePara : ℕ → Para
-barePara n = record { refusal = n; count = 0; numbers = asRaw noNumbers }
+barePara n = record { refusal = n; count = 0; numbers = noNumbers }
 
 -- And so of each kind: refused, it is that and no more.
 pub sample-refused : {promise : Looked → Type 0} {r : Sample} → Carried asSample promise r → (r .refusal ≡ 0 → ⊥) → r ≡ bareSample (r .refusal)
