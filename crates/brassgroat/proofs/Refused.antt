@@ -30,7 +30,7 @@ use Rattle.plain_answers.specs.declared.Para.{Para}
 use Rattle.brassgroat.specs.Carried.{Carried, PartCarried}
 use Rattle.plain_answers.specs.Answers.{asSample, asPosition, asCode, asReal, asParametric, asMonotony, asDegeneration, asCount, asPara}
 use Rattle.brassgroat.proofs.Parts.{part-refused}
-use Rattle.brassgroat.proofs.One.{bg-part-one}
+use Rattle.brassgroat.proofs.One.{part-carried-one}
 
 -- Where each answer of the library is either granted or has nothing in its other places, so it is with what crosses.
 module _ {L R : Type 0} {places : L → R} {promise : L → Type 0} {r : R} (number : R → ℕ) (bare : ℕ → R) (each : (l : L) → (number (places l) ≡ 0) ⊎ (places l ≡ bare (number (places l)))) where
@@ -137,4 +137,4 @@ para-refused = bare-refused (λ (x : Para). x .refusal) barePara each
 
 -- The part of a tag too.
 pub part-bare : {tag : RefT (List ℕ)} {r : Part} → PartCarried tag r → (r .refusal ≡ 0 → ⊥) → r ≡ record { refusal = r .refusal; start = 0; len = 0 }
-part-bare c some = bg-part-one c (part-refused (c .kept) some)
+part-bare c some = part-carried-one c (part-refused (c .kept) some)

@@ -1,4 +1,6 @@
--- The places of each answer that crosses: document 01's number, and its values, which are 0 where the answer is a refusal. Assumes nothing.
+-- The places of each answer that crosses: document 01's number, and its values, which are 0 where the answer is a refusal; and the version of these
+-- places. Assumes nothing.
+use Prim.Native.Nat.{ℕ}
 use mathlib.Core.Bool.{Bool, true, false}
 use lib.Dec.{eqb}
 use Rattle.table.specs.Answers.{numberOfLooked, valueOfLooked, numberOfSought, valueOfSought}
@@ -61,3 +63,7 @@ asDegeneration l = record { refusal = numberOfDegenerated l; yes = eqb (yesOfDeg
 
 abbrev pub asCount : Counted → Count
 asCount l = record { refusal = numberOfCounted l; entries = valueOfCounted l }
+
+-- 0.2.0, as include/brassgroat.h and bindings/rust/Cargo.toml have it; face/test compares the three
+abbrev pub version : ℕ
+version = 200

@@ -153,7 +153,7 @@ pub fn as_degeneration(answer: Degenerated) -> Degeneration
         },
         Degenerated::Refused(why) => Degeneration {
             refusal: number(why),
-            yes: false,
+            yes: false, // 0 in every other place, as document 01 has it
         },
     }
 }

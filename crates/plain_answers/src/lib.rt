@@ -4,8 +4,18 @@ use para::Numbers;
 use parametric::ParametricCurve;
 use table::Density;
 use table::Drive;
+ghost use mathlib.Core.Path.{_≡_};
+ghost use Rattle.plain_answers.specs.Answers.{version};
 
 pub mod inside;
+
+// Which version of these structs, and of the exports over them, this is: 10,000 times its first number, 100 times its second, and its third. A program
+// that was built against another one's header or Rust crate can tell by it.
+pub fn version() -> u32
+    ensures { λ r. ⌜ r ≡ version ⌝ }
+{
+    200
+}
 
 // A sample.
 #[repr(C)]
