@@ -1,7 +1,8 @@
 /*
- * Other floating-point environments. What was expected of the calls that work in whole numbers is expected again in each,
- * and of those that work in floats once the default one is back. Then each of the latter is seen to move, so that the
- * header does not warn for nothing; no promise says what they answer there.
+ * Other floating-point environments. What was expected of the calls that work in whole numbers is expected again in
+ * each, and of those that work in floats once the default one is back. Then the latter are seen to move, so that the
+ * header does not warn for nothing: no promise says what they answer there. (Only the passthrough table was never seen
+ * to.)
  */
 #include "check.h"
 
@@ -21,35 +22,28 @@ static unsigned other;
 /* Whether this machine, which may be an emulator, does what the environment says. */
 static bool modelled(void)
 {
-    volatile float least_normal = 0x1p-126f, flushed;
-    volatile double tenth = 10, third = -3;
+    volatile float least_normal = 0x1p-126f, smallest = 0x1p-149f, halved;
+    volatile double ten = 10, three = 3, tenth, third;
+    volatile bool zero;
     _mm_setcsr(other);
-    flushed = least_normal / 2;
-    tenth = 1 / tenth;
-    third = 1 / third;
+    halved = least_normal / 2;
+    zero = smallest == 0;
+    tenth = 1 / ten;
+    third = -1 / three;
     _mm_setcsr(DEFAULT);
     switch (other) {
     case FLUSH:
-        return flushed == 0;
+        return halved == 0 && zero;
     case DOWN:
         return tenth == 0x1.9999999999999p-4 && third == -0x1.5555555555556p-2;
     case UP:
-        return tenth == 0x1.999999999999ap-4 && third == -0x1.5555555555555p-2 && flushed == 0x1p-127f;
+        return tenth == 0x1.999999999999ap-4 && third == -0x1.5555555555555p-2;
     default:
         return tenth == 0x1.9999999999999p-4 && third == -0x1.5555555555555p-2;
     }
 }
 
-static void asked_again(void)
-{
-    _mm_setcsr(other);
-    run_all(false);
-    EXPECT((_mm_getcsr() & ~FLAGS) == other);
-    _mm_setcsr(DEFAULT);
-    run_all(true);
-}
-
-/* The answers of the calls that work in floats where each is known to move. */
+/* What calls that work in floats answer where they are known to move. */
 struct moving {
     uint32_t float_table, wide_input, below_zero, curve, tag_curve;
     bool close;
@@ -106,9 +100,13 @@ static void moved(void)
     EXPECT(moving_is(ask(DEFAULT), right));
 }
 
-static void again_and_moved(void)
+static void tried(void)
 {
-    asked_again();
+    _mm_setcsr(other);
+    run_all(false);
+    EXPECT((_mm_getcsr() & ~FLAGS) == other);
+    _mm_setcsr(DEFAULT);
+    run_all(true);
     moved();
 }
 
@@ -117,7 +115,7 @@ void environments(void)
     for (size_t i = 0; i < sizeof others / sizeof *others; i++) {
         other = others[i].value;
         if (modelled())
-            subject(others[i].name, again_and_moved);
+            subject(others[i].name, tried);
         else
             printf("face: not tried here: the calls with floats %s (this machine does not do so)\n", others[i].name);
     }
