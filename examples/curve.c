@@ -21,6 +21,13 @@ static void must(uint32_t refusal, const char *what)
 
 int main(void)
 {
+    /* An archive of another version may have other structs than this header. */
+    if (bg_version() != BG_VERSION) {
+        fprintf(stderr, "the archive's version is %u, and the header's %u\n", (unsigned)bg_version(),
+                (unsigned)BG_VERSION);
+        return 1;
+    }
+
     /* The tag: "curv", four zero bytes, how many entries, and the entries, big-endian. */
     const uint8_t tag[] = {'c', 'u', 'r', 'v', 0, 0, 0, 0, 0, 0, 0, 5, 0x00, 0x00, 0x23, 0x28, 0x75, 0x30, 0xcb, 0x20, 0xff, 0xff};
 

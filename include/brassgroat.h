@@ -11,10 +11,18 @@
  *   is listed first at the call is given.
  * - A buffer is a pointer and a count of its ELEMENTS, not bytes. The pointer must be aligned for its type and good for that
  *   many elements; it may be null only where the count is 0. An output buffer must not overlap another buffer of the same
- *   call; buffers that are only read may overlap each other. This much C's caller must see to: nothing else can go wrong.
+ *   call; buffers that are only read may overlap each other. This much C's caller must see to, and the environment of
+ *   floats: nothing else can go wrong.
  * - It keeps no state, allocates nothing, and writes to its output buffers alone. Threads may call it at will, as long as no buffer that
  *   one call writes is used by another.
  * - A NaN among the answers may have any NaN's bits.
+ * - The floating-point environment is the caller's. Eight calls work in floats and promise their answers in the default
+ *   one alone: round to nearest, no flush to zero, no traps. A program linked with -ffast-math starts in another. They
+ *   are bg_lut_interp_linear_float, bg_lut_interp_linear, bg_passthrough_table_impl, bg_parametric_curve_new,
+ *   bg_compare_parametric, bg_para_curve, and bg_lut_inverse_interp16 and bg_invert_lut, which work in doubles inside.
+ *   Flushed to zero, bg_lut_interp_linear_float in {0, 0x1p-149f} at 0.5f is 0 for 0x1p-149f; rounded down,
+ *   bg_lut_inverse_interp16 in {0, 8286, 24858, 47388} of 31617 is 50243 for 50244. All other calls answer the same in
+ *   every environment. No call changes it but for its exception flags.
  *
  * A position, the input side of a curve, is a drive; a sample, the output side, is a density. Both are 16 bits wide. They are
  * two types, so that neither is written in the other's column: looking up takes a drive and gives a density, and both inverses
@@ -31,7 +39,13 @@
 extern "C" {
 #endif
 
-/* Why a call is refused; 0 is no refusal. */
+/*
+ * The version of this header: 10,000 times its first number, 100 times its second, and its third. An archive of another
+ * version may have other structs, so a program asks first whether bg_version() is BG_VERSION.
+ */
+#define BG_VERSION 200
+
+/* Why a call is refused; 0 is no refusal. Later versions may have further numbers. */
 enum bg_refusal {
     BG_DONE = 0,
     BG_TABLE_LENGTH = 1,        /* the table's length is 0 or above 65,536 (where a call says so: only above; below 2 or above) */
@@ -70,6 +84,9 @@ typedef struct { uint32_t refusal; bg_curve curve; } bg_parametric;
 /* The raw signed 16.16 numbers of a para tag, in its order; those that its type does not use are 0. */
 typedef struct { int32_t g, a, b, c, d, e, f; } bg_raw;
 typedef struct { uint32_t refusal; size_t count; bg_raw numbers; } bg_para;
+
+/* The archive's own version, as BG_VERSION is the header's. Never refused. */
+uint32_t bg_version(void);
 
 /* ---- Looking up (crates lookup, rows and gamma) ---- */
 

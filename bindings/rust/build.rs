@@ -4,9 +4,12 @@ use std::path::PathBuf;
 
 fn main() {
     println!("cargo::rerun-if-env-changed=BRASSGROAT_LIB_DIR");
-    if env::var("CARGO_CFG_TARGET_ARCH").as_deref() != Ok("x86_64") {
+    let target =
+        ["ARCH", "OS", "POINTER_WIDTH"].map(|part| env::var(format!("CARGO_CFG_TARGET_{part}")).unwrap_or_default());
+    if target != ["x86_64", "linux", "64"] {
         println!(
-            "cargo::warning=the archive links only into x86-64 programs: this crate can be checked and documented here, not run"
+            "cargo::warning=the archive is for x86-64 Linux, and the target is {}: this crate can be checked and documented for it, not run",
+            target.join(" ")
         );
         return;
     }

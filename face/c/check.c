@@ -139,7 +139,7 @@ bool curve_refused(bg_parametric p, uint32_t refusal)
     return p.refusal == refusal && memcmp(&p.curve, &none, sizeof none) == 0;
 }
 
-static void subject(const char *name, void (*run)(void))
+void subject(const char *name, void (*run)(void))
 {
     unsigned long before = expected, failed_before = failed;
     run();
@@ -147,17 +147,40 @@ static void subject(const char *name, void (*run)(void))
     printf("face: %s: %lu expectations, %lu failed\n", name, expected - before, failed - failed_before);
 }
 
+/* Every subject, and whether its calls work in floats, so that they need the default floating-point environment. */
+static const struct {
+    const char *name;
+    void (*run)(void);
+    bool floats;
+} subjects[] = {
+    {"looking up", lookups, false},
+    {"working on a curve", curves, false},
+    {"from density back to drive", inverses, false},
+    {"moxcms's own inverse", ported_inverses, true},
+    {"floats", floats, true},
+    {"numbers rounded to float", rounded, false},
+    {"parametric curves", parametrics, true},
+    {"verdicts", verdicts, false},
+    {"the house curve", house_curve, false},
+    {"curv tags", curv_tags, false},
+    {"para tags", para_tags, false},
+    {"para tags as curves", para_curves, true},
+    {"the version", version, false},
+};
+enum { SUBJECTS = sizeof subjects / sizeof *subjects };
+
+void run_all(bool floats)
+{
+    for (size_t i = 0; i < SUBJECTS; i++)
+        if (subjects[i].floats == floats)
+            subjects[i].run();
+}
+
 int main(void)
 {
-    subject("looking up", lookups);
-    subject("working on a curve", curves);
-    subject("from density back to drive", inverses);
-    subject("floats", floats);
-    subject("parametric curves", parametrics);
-    subject("verdicts", verdicts);
-    subject("the house curve", house_curve);
-    subject("curv tags", curv_tags);
-    subject("para tags", para_tags);
+    for (size_t i = 0; i < SUBJECTS; i++)
+        subject(subjects[i].name, subjects[i].run);
+    environments();
     printf("face: %lu expectations, %lu failed\n", expected, failed);
     return failed == 0 ? 0 : 1;
 }

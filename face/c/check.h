@@ -59,8 +59,21 @@ void floats(void);
 void house_curve(void);
 void inverses(void);
 void lookups(void);
+void para_curves(void);
 void para_tags(void);
 void parametrics(void);
+void ported_inverses(void);
+void rounded(void);
 void verdicts(void);
+void version(void);
+
+/* Runs a subject, gives its buffers back, and prints how many expectations it had and how many failed. */
+void subject(const char *name, void (*run)(void));
+
+/* Runs every subject whose calls work in floats, or every other one. */
+void run_all(bool floats);
+
+/* Runs them in other floating-point environments. */
+void environments(void);
 
 #endif

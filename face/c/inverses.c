@@ -90,6 +90,10 @@ void inverses(void)
 {
     least();
     least_row();
+}
+
+void ported_inverses(void)
+{
     ported();
     whole_table();
 }

@@ -57,7 +57,7 @@ static void each_type(void)
     }
 }
 
-static void as_curves(void)
+void para_curves(void)
 {
     uint8_t *tag = LEND(uint8_t, 40);
     GRANTED(tag, bg_para_write(0, raw, tag, 16));
@@ -96,5 +96,4 @@ void para_tags(void)
     changed(BG_FUNCTION_TYPE, 9, 5);
     changed(BG_TAG_LENGTH, 9, 1);
     each_type();
-    as_curves();
 }

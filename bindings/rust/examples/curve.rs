@@ -8,6 +8,9 @@
 use brassgroat::{Density, Drive, Refusal, curv};
 
 fn main() -> Result<(), Refusal> {
+    // An archive of another version may have other structs than this crate.
+    assert_eq!(brassgroat::version(), brassgroat::VERSION, "the archive's version, and the crate's");
+
     // The tag: "curv", four zero bytes, how many entries, and the entries, big-endian.
     let tag = *b"curv\0\0\0\0\0\0\0\x05\x00\x00\x23\x28\x75\x30\xcb\x20\xff\xff";
 

@@ -1,4 +1,4 @@
-//! Floats: IEEE 754, one rounding for each operation.
+//! Floats: IEEE 754, one rounding for each operation, in the default floating-point environment.
 use crate::refusal::granted;
 use crate::{Refusal, raw};
 

@@ -50,7 +50,15 @@
 //! # The archive
 //!
 //! `rt staticlib brassgroat`, run in the project's root, proves the library and writes target/staticlib/libbrassgroat.a, for x86-64 Linux. The build
-//! finds it there, or in the folder that the environment variable `BRASSGROAT_LIB_DIR` names.
+//! finds it there, or in the folder that the environment variable `BRASSGROAT_LIB_DIR` names. An archive that was not made with this crate may have other
+//! structs: compare [`version`] with [`VERSION`] first.
+//!
+//! # The floating-point environment
+//!
+//! Rust's own code rounds to nearest and flushes nothing to zero, and a call keeps its promise there. A program in C that calls Rust may be in another
+//! environment, as it is where it was linked with -ffast-math. Eight calls, which work in floats, then promise nothing: [`lut_interp_linear_float`],
+//! [`lut_interp_linear`], [`passthrough_table_impl`], [`ParametricCurve::new`], [`compare_parametric`], [`para::curve`], and, since they work in doubles
+//! inside, [`lut_inverse_interp16`] and [`invert_lut`]. All other calls answer the same in every environment.
 #![no_std]
 #![warn(missing_docs)]
 
@@ -65,6 +73,7 @@ mod parametrics;
 mod raw;
 mod refusal;
 mod verdicts;
+mod version;
 
 pub use curves::{accept, nudge, start};
 pub use floats::{
@@ -76,6 +85,7 @@ pub use lookups::{bake, lut_interp_linear_gamma_impl, lut_interp_linear16, lut_i
 pub use parametrics::{ParametricCurve, compare_parametric};
 pub use refusal::Refusal;
 pub use verdicts::{Direction, Monotonic, is_curve_degenerated, is_curve_monotonic};
+pub use version::{VERSION, version};
 
 /// A position, the input side of a curve.
 #[repr(C)]

@@ -68,6 +68,8 @@ pub struct Para {
 }
 
 unsafe extern "C" {
+    pub safe fn bg_version() -> u32;
+
     pub fn bg_lut_interp_linear16(table: *const u16, table_len: usize, position: Drive) -> Sample;
     pub fn bg_lut_interp_linear16_row(
         table: *const u16,

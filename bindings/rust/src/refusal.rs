@@ -3,7 +3,8 @@ use core::fmt;
 
 /// Why a call was refused. It has then changed nothing.
 ///
-/// Each case has a number, the same in every language that calls the library, and says as text what to do.
+/// Each case has a number, the same in every language that calls the library, and says as text what to do. Later versions may name more cases, and a number
+/// that has no name here is carried as it came: it can be told by [`number`](Refusal::number) alone.
 ///
 /// ```
 /// use brassgroat::Refusal;
@@ -13,40 +14,43 @@ use core::fmt;
 /// assert_eq!(refusal.number(), 2);
 /// assert_eq!(refusal.to_string(), "an entry of the table is below the one before it: put the entries in order, none below the one before");
 /// ```
-#[repr(u32)]
+#[non_exhaustive]
 #[derive(Clone, Copy, Debug, PartialEq, Eq, Hash)]
 pub enum Refusal {
     /// The table's length is 0 or above 65,536; of [`start`](crate::start), below 2 or above; of calls that say so, only above.
-    TableLength = 1,
+    TableLength,
     /// An entry of the table is below the one before it.
-    NotNondecreasing = 2,
+    NotNondecreasing,
     /// The index is beyond the table, or the gamma lookup's input is at or above its `inputs`.
-    IndexBeyond = 3,
+    IndexBeyond,
     /// The nudged entry would be below its left or above its right neighbour.
-    OutsideNeighbours = 4,
+    OutsideNeighbours,
     /// The density is above the last entry, so that no position reaches it.
-    AboveLast = 5,
+    AboveLast,
     /// The output is not exactly as long as needed.
-    OutputLength = 6,
+    OutputLength,
     /// A parametric curve has 1, 3, 4, 5 or 7 parameters.
-    ParameterCount = 7,
+    ParameterCount,
     /// The tag has fewer than 12 bytes, or the wrong total length.
-    TagLength = 8,
+    TagLength,
     /// The tag has another signature.
-    WrongSignature = 9,
+    WrongSignature,
     /// A reserved byte of the tag is not zero.
-    ReservedNotZero = 10,
+    ReservedNotZero,
     /// The function type is above 4.
-    FunctionType = 11,
+    FunctionType,
     /// The gamma lookup's `inputs` or `depth`, or the length of an inverted or a passthrough table, is outside its range.
-    OutsideRange = 12,
+    OutsideRange,
     /// The input of [`lut_interp_linear`](crate::lut_interp_linear) is a NaN, below 0 or above 1.
-    OutsideUnit = 13,
+    OutsideUnit,
+    /// A number that this version has no name for, from an archive that is newer than the crate.
+    #[non_exhaustive]
+    Unnamed(u32),
 }
 
 impl Refusal {
-    /// Every refusal, by its number.
-    pub const ALL: [Refusal; 13] = [
+    /// Every refusal that has a name, in the order of the numbers from 1 on.
+    pub const ALL: &[Refusal] = &[
         Refusal::TableLength,
         Refusal::NotNondecreasing,
         Refusal::IndexBeyond,
@@ -62,9 +66,38 @@ impl Refusal {
         Refusal::OutsideUnit,
     ];
 
-    /// Its number, from 1 to 13.
+    /// Its number.
     pub const fn number(self) -> u32 {
-        self as u32
+        match self {
+            Refusal::TableLength => 1,
+            Refusal::NotNondecreasing => 2,
+            Refusal::IndexBeyond => 3,
+            Refusal::OutsideNeighbours => 4,
+            Refusal::AboveLast => 5,
+            Refusal::OutputLength => 6,
+            Refusal::ParameterCount => 7,
+            Refusal::TagLength => 8,
+            Refusal::WrongSignature => 9,
+            Refusal::ReservedNotZero => 10,
+            Refusal::FunctionType => 11,
+            Refusal::OutsideRange => 12,
+            Refusal::OutsideUnit => 13,
+            Refusal::Unnamed(number) => number,
+        }
+    }
+
+    /// The refusal that has a number, whether it is named or not. None has 0, which is no refusal.
+    ///
+    /// ```
+    /// use brassgroat::Refusal;
+    ///
+    /// assert_eq!(Refusal::of_number(0), None);
+    /// assert_eq!(Refusal::of_number(4), Some(Refusal::OutsideNeighbours));
+    /// assert_eq!(Refusal::of_number(31).map(Refusal::number), Some(31));
+    /// ```
+    pub fn of_number(number: u32) -> Option<Refusal> {
+        let at = number.checked_sub(1)?;
+        Some(Refusal::ALL.get(at as usize).copied().unwrap_or(Refusal::Unnamed(number)))
     }
 }
 
@@ -84,6 +117,7 @@ impl fmt::Display for Refusal {
             Refusal::FunctionType => "the function type is above 4: ICC.1 has types 0 to 4",
             Refusal::OutsideRange => "a size is outside its range: 2 to 65,536 inputs or entries, and 1 to 16 bits",
             Refusal::OutsideUnit => "the input is a NaN, below 0 or above 1: bring it into that range first",
+            Refusal::Unnamed(number) => return write!(f, "refused with {number}, which this version has no name for: see the archive's own header"),
         })
     }
 }
@@ -92,8 +126,5 @@ impl core::error::Error for Refusal {}
 
 /// What a call's number says: done at 0, else the refusal.
 pub(crate) fn granted(number: u32) -> Result<(), Refusal> {
-    match number {
-        0 => Ok(()),
-        n => Err(*Refusal::ALL.get(n as usize - 1).expect("the archive gives a number from 0 to 13")),
-    }
+    Refusal::of_number(number).map_or(Ok(()), Err)
 }

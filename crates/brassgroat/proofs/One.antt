@@ -1,178 +1,199 @@
--- Each export's promise names one answer and one later state of its buffer: what holds of the library's promise holds of what crosses. Where an export
--- cites a promise as it is, the library's own law says it: `narrow-one`, `u8-one`, `s15-one`, `compare-one`. Assumes nothing.
+-- Each export's contract names one answer and one later state of its buffer: what holds of the library's promise holds of what crosses. The contracts are
+-- the exports' own, read from the source (`Post`), so that one that says less than its promise has no law here. Assumes nothing.
 use Prim.Native.Nat.{ℕ, _+_}
 use mathlib.Core.Path.{_≡_, sym, ap, _∙_}
-use mathlib.Core.Bool.{Bool}
 use mathlib.Core.List.{List}
 use native.Mathlib.Omega.{arith}
-use denote.Ref.{RefT}
+use denote.Ref.{RefT, now}
 use lib.ListN.{length}
-use lib.Ieee.{Float}
-use Rattle.table.specs.Answers.{numberOfDone}
-use Rattle.table.specs.declared.Drive.{Drive}
-use Rattle.table.specs.declared.Density.{Density}
-use Rattle.lookup.specs.Promises.{LookupPromise}
-use Rattle.rows.specs.Promises.{RowPromise, BakePromise}
-use Rattle.gamma.specs.Promises.{GammaPromise}
+use Rattle.rounding.proofs.Answers.{narrow-one, u8-one, s15-one}
 use Rattle.lookup.proofs.Promises.{lookup-one}
 use Rattle.rows.proofs.Promises.{row-one, bake-one}
 use Rattle.gamma.proofs.Promises.{gamma-one}
-use Rattle.curve.specs.Promises.{Sitting, sittingOn, StartPromise, AcceptPromise}
+use Rattle.curve.specs.Promises.{Sitting, sittingOn}
 use Rattle.curve.proofs.Promises.{start-one, accept-one}
-use Rattle.nudge.specs.Promises.{NudgePromise}
 use Rattle.nudge.proofs.Promises.{nudge-one}
-use Rattle.least.specs.Promises.{LeastPromise}
 use Rattle.least.proofs.Promises.{least-one}
-use Rattle.least_row.specs.Promises.{LeastRowPromise}
 use Rattle.least_row.proofs.Promises.{least-row-one}
-use Rattle.inverse.specs.Promises.{InversePromise}
-use Rattle.invert.specs.Promises.{InvertPromise}
 use Rattle.inverse.proofs.Promises.{inverse-one}
 use Rattle.invert.proofs.Promises.{invert-one}
-use Rattle.interp.specs.Promises.{FloatPromise, LinearPromise}
 use Rattle.interp.proofs.Answers.{float-one, linear-one}
-use Rattle.passthrough.specs.Promises.{PassthroughPromise}
 use Rattle.passthrough.proofs.Promises.{passthrough-one}
-use Rattle.parametric.specs.Promises.{NewPromise}
 use Rattle.parametric.proofs.Unify.{new-one}
-use Rattle.monotonic.specs.Promises.{MonotonicPromise}
+use Rattle.parametric.proofs.Compare.{compare-one}
 use Rattle.monotonic.proofs.Promises.{monotonic-one}
-use Rattle.degeneration.specs.Promises.{DegeneratedPromise}
 use Rattle.degeneration.proofs.Promises.{degenerated-one}
-use Rattle.house.specs.Promises.{EntryPromise, FillPromise}
 use Rattle.house.proofs.Promises.{entry-one, fill-one}
-use Rattle.curv.specs.Promises.{CountPromise}
 use Rattle.curv.proofs.Promises.{count-one}
-use Rattle.curv_reader.specs.Promises as curv-reader
-use Rattle.curv_reader.proofs.Promises as curv-reader-laws
+use Rattle.curv_reader.proofs.Promises as curv-reader
 use Rattle.curv_part.specs.Promises.{past}
 use Rattle.curv_part.proofs.Promises.{part-one}
-use Rattle.curv_writer.specs.Promises as curv-writer
-use Rattle.curv_writer.proofs.Promises as curv-writer-laws
-use Rattle.para.specs.Promises as para
-use Rattle.para.proofs.Promises as para-laws
-use Rattle.para_curve.specs.Promises.{CurvePromise}
+use Rattle.curv_writer.proofs.Promises as curv-writer
+use Rattle.para.proofs.Promises as para
 use Rattle.para_curve.proofs.Promises.{curve-one}
-use Rattle.para_writer.specs.Promises as para-writer
-use Rattle.para_writer.proofs.Promises as para-writer-laws
-use Rattle.plain_answers.specs.declared.Sample.{Sample}
-use Rattle.plain_answers.specs.declared.Position.{Position}
-use Rattle.plain_answers.specs.declared.Code.{Code}
-use Rattle.plain_answers.specs.declared.Real.{Real}
-use Rattle.plain_answers.specs.declared.Parametric.{Parametric}
-use Rattle.plain_answers.specs.declared.Monotony.{Monotony}
-use Rattle.plain_answers.specs.declared.Degeneration.{Degeneration}
-use Rattle.plain_answers.specs.declared.Count.{Count}
+use Rattle.para_writer.proofs.Promises as para-writer
+use Rattle.plain_answers.specs.Answers.{asDirection}
 use Rattle.brassgroat.specs.declared.curv_tags.Part.{Part}
-use Rattle.plain_answers.specs.declared.Raw.{Raw}
-use Rattle.plain_answers.specs.declared.Para.{Para}
 use Rattle.brassgroat.specs.Carried.{Carried, PartCarried}
-use Rattle.plain_answers.specs.Answers.{asSample, asPosition, asCode, asReal, asParametric, asDirection, asMonotony, asDegeneration, asCount, fromRaw, asPara}
+use Rattle.brassgroat.specs.Contract.{OneAnswer, OneAnswerAndBuffer, first, second, third}
+use Rattle.brassgroat.proofs.lookups.bg_lut_interp_linear16.Reads as bg_lut_interp_linear16
+use Rattle.brassgroat.proofs.lookups.bg_lut_interp_linear16_row.Reads as bg_lut_interp_linear16_row
+use Rattle.brassgroat.proofs.lookups.bg_bake.Reads as bg_bake
+use Rattle.brassgroat.proofs.lookups.bg_lut_interp_linear_gamma_impl.Reads as bg_lut_interp_linear_gamma_impl
+use Rattle.brassgroat.proofs.curves.bg_start.Reads as bg_start
+use Rattle.brassgroat.proofs.curves.bg_accept.Reads as bg_accept
+use Rattle.brassgroat.proofs.curves.bg_nudge.Reads as bg_nudge
+use Rattle.brassgroat.proofs.inverses.bg_least_input.Reads as bg_least_input
+use Rattle.brassgroat.proofs.inverses.bg_least_input_row.Reads as bg_least_input_row
+use Rattle.brassgroat.proofs.inverses.bg_lut_inverse_interp16.Reads as bg_lut_inverse_interp16
+use Rattle.brassgroat.proofs.inverses.bg_invert_lut.Reads as bg_invert_lut
+use Rattle.brassgroat.proofs.floats.bg_lut_interp_linear_float.Reads as bg_lut_interp_linear_float
+use Rattle.brassgroat.proofs.floats.bg_lut_interp_linear.Reads as bg_lut_interp_linear
+use Rattle.brassgroat.proofs.floats.bg_passthrough_table_impl.Reads as bg_passthrough_table_impl
+use Rattle.brassgroat.proofs.floats.bg_nearest_f64_to_f32.Reads as bg_nearest_f64_to_f32
+use Rattle.brassgroat.proofs.floats.bg_u8_fixed_8number_to_float.Reads as bg_u8_fixed_8number_to_float
+use Rattle.brassgroat.proofs.floats.bg_s15_fixed16_number_to_float.Reads as bg_s15_fixed16_number_to_float
+use Rattle.brassgroat.proofs.parametrics.bg_parametric_curve_new.Reads as bg_parametric_curve_new
+use Rattle.brassgroat.proofs.parametrics.bg_compare_parametric.Reads as bg_compare_parametric
+use Rattle.brassgroat.proofs.verdicts.bg_is_curve_monotonic.Reads as bg_is_curve_monotonic
+use Rattle.brassgroat.proofs.verdicts.bg_is_curve_degenerated.Reads as bg_is_curve_degenerated
+use Rattle.brassgroat.proofs.house_curve.bg_house_entry.Reads as bg_house_entry
+use Rattle.brassgroat.proofs.house_curve.bg_house_fill.Reads as bg_house_fill
+use Rattle.brassgroat.proofs.curv_tags.bg_curv_count.Reads as bg_curv_count
+use Rattle.brassgroat.proofs.curv_tags.bg_curv_read.Reads as bg_curv_read
+use Rattle.brassgroat.proofs.curv_tags.bg_curv_part.Reads as bg_curv_part
+use Rattle.brassgroat.proofs.curv_tags.bg_curv_write.Reads as bg_curv_write
+use Rattle.brassgroat.proofs.para_tags.bg_para_read.Reads as bg_para_read
+use Rattle.brassgroat.proofs.para_tags.bg_para_curve.Reads as bg_para_curve
+use Rattle.brassgroat.proofs.para_tags.bg_para_write.Reads as bg_para_write
+use Rattle.brassgroat.proofs.version.bg_version.Reads as bg_version
 
 -- One answer of the library is one of the face; and so it is beside a later state.
-module _ {L R : Type 0} {places : L → R} {r s : R} where
-  pub one-answer : {P : L → Type 0} → ((a b : L) → P a → P b → a ≡ b) → Carried places P r → Carried places P s → r ≡ s
-  one-answer one x y = x .same ∙ ap places (one (x .answer) (y .answer) (x .kept) (y .kept)) ∙ sym (y .same)
+module _ {K A L R E : Type 0} {places : L → R} where
+  pub one-answer :
+      {P : K → A → L → Type 0} →
+      ((κs : K) (a : A) (l m : L) → P κs a l → P κs a m → l ≡ m) →
+      OneAnswer (λ (κs : K) (a : A) (r : R) (e : E). Carried places (P κs a) r)
+  one-answer one κs a r s e f x y =
+      x .same ∙ ap places (one κs a (x .answer) (y .answer) (x .kept) (y .kept)) ∙ sym (y .same)
 
-  pub one-both : {S : Type 0} {P Q : L → Type 0} {t u : S} → ((a b : L) → P a → Q b → (a ≡ b) × (t ≡ u)) → Carried places P r → Carried places Q s → (r ≡ s) × (t ≡ u)
-  one-both one x y =
-      let both = one (x .answer) (y .answer) (x .kept) (y .kept) in
+  pub one-both :
+      {S : Type 0} {buffer : E → S} {P : K → A → E → L → Type 0} →
+      ((κs : K) (a : A) (e f : E) (l m : L) → P κs a e l → P κs a f m → (l ≡ m) × (buffer e ≡ buffer f)) →
+      OneAnswerAndBuffer (λ (κs : K) (a : A) (r : R) (e : E). Carried places (P κs a e) r) buffer
+  one-both one κs a r s e f x y =
+      let both = one κs a e f (x .answer) (y .answer) (x .kept) (y .kept) in
       (x .same ∙ ap places (both .0) ∙ sym (y .same), both .1)
 
 -- Looking up.
-module _ {t : List ℕ} where
-  pub bg-lookup-one : {p : Drive} {r s : Sample} → Carried asSample (LookupPromise t p) r → Carried asSample (LookupPromise t p) s → r ≡ s
-  bg-lookup-one = one-answer (λ a b x y. lookup-one x y)
+pub bg-lookup-one : OneAnswer bg_lut_interp_linear16.Post
+bg-lookup-one = one-answer (λ κs a l m. lookup-one)
 
-  pub bg-row-one : {ps out out′ out″ : List ℕ} {r s : ℕ} → Carried numberOfDone (λ d. RowPromise t ps out d out′) r → Carried numberOfDone (λ d. RowPromise t ps out d out″) s → (r ≡ s) × (out′ ≡ out″)
-  bg-row-one = one-both (λ a b x y. row-one x y)
+pub bg-row-one : OneAnswerAndBuffer bg_lut_interp_linear16_row.Post third
+bg-row-one = one-both (λ κs a e f l m. row-one)
 
-  pub bg-bake-one : {out out′ out″ : List ℕ} {r s : ℕ} → Carried numberOfDone (λ d. BakePromise t out d out′) r → Carried numberOfDone (λ d. BakePromise t out d out″) s → (r ≡ s) × (out′ ≡ out″)
-  bg-bake-one = one-both (λ a b x y. bake-one x y)
+pub bg-bake-one : OneAnswerAndBuffer bg_bake.Post second
+bg-bake-one = one-both (λ κs a e f l m. bake-one)
 
-  pub bg-gamma-one : {N depth x : ℕ} {r s : Code} → Carried asCode (GammaPromise t N depth x) r → Carried asCode (GammaPromise t N depth x) s → r ≡ s
-  bg-gamma-one = one-answer (λ a b x y. gamma-one x y)
+pub bg-gamma-one : OneAnswer bg_lut_interp_linear_gamma_impl.Post
+bg-gamma-one = one-answer (λ κs a l m. gamma-one)
 
 -- Working on a curve.
-tables : {t′ t″ : List ℕ} → sittingOn t′ ≡ sittingOn t″ → t′ ≡ t″
+tables : {t u : List ℕ} → sittingOn t ≡ sittingOn u → t ≡ u
 tables e = ap (λ (s : Sitting). s .table) e
 
-module _ {t : List ℕ} {r s : ℕ} where
-  pub bg-start-one : {t′ t″ : List ℕ} → Carried numberOfDone (λ d. StartPromise (sittingOn t) d (sittingOn t′)) r → Carried numberOfDone (λ d. StartPromise (sittingOn t) d (sittingOn t″)) s → (r ≡ s) × (t′ ≡ t″)
-  bg-start-one = one-both (λ a b x y. let both = start-one x y in (both .0, tables (both .1)))
+pub bg-start-one : OneAnswerAndBuffer bg_start.Post first
+bg-start-one = one-both (λ κs a e f l m x y. let both = start-one x y in (both .0, tables (both .1)))
 
-  pub bg-accept-one : Carried numberOfDone (λ d. AcceptPromise (sittingOn t) d (sittingOn t)) r → Carried numberOfDone (λ d. AcceptPromise (sittingOn t) d (sittingOn t)) s → r ≡ s
-  bg-accept-one = one-answer (λ a b x y. accept-one x y .0)
+pub bg-accept-one : OneAnswer bg_accept.Post
+bg-accept-one = one-answer (λ κs a l m x y. accept-one x y .0)
 
-  pub bg-nudge-one : {t′ t″ : List ℕ} {i : ℕ} {v : Density} → Carried numberOfDone (λ d. NudgePromise (sittingOn t) i v d (sittingOn t′)) r → Carried numberOfDone (λ d. NudgePromise (sittingOn t) i v d (sittingOn t″)) s → (r ≡ s) × (t′ ≡ t″)
-  bg-nudge-one = one-both (λ a b x y. let both = nudge-one x y in (both .0, tables (both .1)))
+pub bg-nudge-one : OneAnswerAndBuffer bg_nudge.Post first
+bg-nudge-one = one-both (λ κs a e f l m x y. let both = nudge-one x y in (both .0, tables (both .1)))
 
 -- From density back to drive.
-module _ {t : List ℕ} where
-  pub bg-least-one : {v : Density} {r s : Position} → Carried asPosition (LeastPromise t v) r → Carried asPosition (LeastPromise t v) s → r ≡ s
-  bg-least-one = one-answer (λ a b x y. least-one x y)
+pub bg-least-one : OneAnswer bg_least_input.Post
+bg-least-one = one-answer (λ κs a l m. least-one)
 
-  pub bg-least-row-one : {vs out out′ out″ : List ℕ} {r s : ℕ} → Carried numberOfDone (λ d. LeastRowPromise t vs out d out′) r → Carried numberOfDone (λ d. LeastRowPromise t vs out d out″) s → (r ≡ s) × (out′ ≡ out″)
-  bg-least-row-one = one-both (λ a b x y. least-row-one x y)
+pub bg-least-row-one : OneAnswerAndBuffer bg_least_input_row.Post third
+bg-least-row-one = one-both (λ κs a e f l m. least-row-one)
 
-  pub bg-inverse-one : {v : Density} {r s : Position} → Carried asPosition (InversePromise t v) r → Carried asPosition (InversePromise t v) s → r ≡ s
-  bg-inverse-one = one-answer (λ a b x y. inverse-one x y)
+pub bg-inverse-one : OneAnswer bg_lut_inverse_interp16.Post
+bg-inverse-one = one-answer (λ κs a l m. inverse-one)
 
-  pub bg-invert-one : {out out′ out″ : List ℕ} {r s : ℕ} → Carried numberOfDone (λ d. InvertPromise t out d out′) r → Carried numberOfDone (λ d. InvertPromise t out d out″) s → (r ≡ s) × (out′ ≡ out″)
-  bg-invert-one = one-both (λ a b x y. invert-one x y)
+pub bg-invert-one : OneAnswerAndBuffer bg_invert_lut.Post second
+bg-invert-one = one-both (λ κs a e f l m. invert-one)
 
 -- Floats and parametric curves.
-pub bg-float-one : {t : List Float} {x : Float} {r s : Real} → Carried asReal (FloatPromise t x) r → Carried asReal (FloatPromise t x) s → r ≡ s
-bg-float-one = one-answer (λ a b x y. float-one x y)
+pub bg-float-one : OneAnswer bg_lut_interp_linear_float.Post
+bg-float-one = one-answer (λ κs a l m. float-one)
 
-pub bg-linear-one : {t : List ℕ} {x : Float} {r s : Real} → Carried asReal (LinearPromise t x) r → Carried asReal (LinearPromise t x) s → r ≡ s
-bg-linear-one = one-answer (λ a b x y. linear-one x y)
+pub bg-linear-one : OneAnswer bg_lut_interp_linear.Post
+bg-linear-one = one-answer (λ κs a l m. linear-one)
 
-pub bg-passthrough-one : {out out′ out″ : List Float} {r s : ℕ} → Carried numberOfDone (λ d. PassthroughPromise out d out′) r → Carried numberOfDone (λ d. PassthroughPromise out d out″) s → (r ≡ s) × (out′ ≡ out″)
-bg-passthrough-one = one-both (λ a b x y. passthrough-one x y)
+pub bg-passthrough-one : OneAnswerAndBuffer bg_passthrough_table_impl.Post first
+bg-passthrough-one = one-both (λ κs a e f l m. passthrough-one)
 
-pub bg-new-one : {params : List Float} {r s : Parametric} → Carried asParametric (NewPromise params) r → Carried asParametric (NewPromise params) s → r ≡ s
-bg-new-one = one-answer (λ a b x y. new-one x y)
+pub bg-narrow-one : OneAnswer bg_nearest_f64_to_f32.Post
+bg-narrow-one κs a r s e f = narrow-one
+
+pub bg-u8-one : OneAnswer bg_u8_fixed_8number_to_float.Post
+bg-u8-one κs a r s e f = u8-one
+
+pub bg-s15-one : OneAnswer bg_s15_fixed16_number_to_float.Post
+bg-s15-one κs a r s e f = s15-one
+
+pub bg-new-one : OneAnswer bg_parametric_curve_new.Post
+bg-new-one = one-answer (λ κs a l m. new-one)
+
+pub bg-compare-one : OneAnswer bg_compare_parametric.Post
+bg-compare-one κs a r s e f = compare-one
 
 -- Verdicts and the house curve.
-pub bg-monotonic-one : {t : List ℕ} (rising : Bool) {r s : Monotony} → Carried asMonotony (MonotonicPromise t (asDirection rising)) r → Carried asMonotony (MonotonicPromise t (asDirection rising)) s → r ≡ s
-bg-monotonic-one {t} rising = one-answer (monotonic-one t (asDirection rising))
+pub bg-monotonic-one : OneAnswer bg_is_curve_monotonic.Post
+bg-monotonic-one = one-answer (λ κs a. monotonic-one (now (a .0)) (asDirection (a .1 .0)))
 
-pub bg-degenerated-one : {t : List ℕ} {r s : Degeneration} → Carried asDegeneration (DegeneratedPromise t) r → Carried asDegeneration (DegeneratedPromise t) s → r ≡ s
-bg-degenerated-one {t} = one-answer (degenerated-one t)
+pub bg-degenerated-one : OneAnswer bg_is_curve_degenerated.Post
+bg-degenerated-one = one-answer (λ κs a. degenerated-one (now (a .0)))
 
-pub bg-entry-one : {i : ℕ} {r s : Sample} → Carried asSample (EntryPromise i) r → Carried asSample (EntryPromise i) s → r ≡ s
-bg-entry-one {i} = one-answer (entry-one i)
+pub bg-entry-one : OneAnswer bg_house_entry.Post
+bg-entry-one = one-answer (λ κs a. entry-one (a .0))
 
-pub bg-fill-one : {out out′ out″ : List ℕ} {r s : ℕ} → Carried numberOfDone (λ d. FillPromise out d out′) r → Carried numberOfDone (λ d. FillPromise out d out″) s → (r ≡ s) × (out′ ≡ out″)
-bg-fill-one {out} {out′} {out″} = one-both (λ a b. fill-one out a b out′ out″)
+pub bg-fill-one : OneAnswerAndBuffer bg_house_fill.Post first
+bg-fill-one = one-both (λ κs a e f l m. fill-one (now (a .0)) l m (now (e .0)) (now (f .0)))
 
 -- Tags.
-module _ {b : List ℕ} where
-  pub bg-count-one : {r s : Count} → Carried asCount (CountPromise b) r → Carried asCount (CountPromise b) s → r ≡ s
-  bg-count-one = one-answer (λ a b x y. count-one x y)
+pub bg-count-one : OneAnswer bg_curv_count.Post
+bg-count-one = one-answer (λ κs a l m. count-one)
 
-  pub bg-read-one : {out out′ out″ : List ℕ} {r s : ℕ} → Carried numberOfDone (λ d. curv-reader.ReadPromise b out d out′) r → Carried numberOfDone (λ d. curv-reader.ReadPromise b out d out″) s → (r ≡ s) × (out′ ≡ out″)
-  bg-read-one = one-both (λ a b x y. curv-reader-laws.read-one x y)
+pub bg-read-one : OneAnswerAndBuffer bg_curv_read.Post second
+bg-read-one = one-both (λ κs a e f l m. curv-reader.read-one)
 
-  pub bg-para-one : {r s : Para} → Carried asPara (para.ReadPromise b) r → Carried asPara (para.ReadPromise b) s → r ≡ s
-  bg-para-one = one-answer (λ a b x y. para-laws.read-one x y)
+pub bg-write-curv-one : OneAnswerAndBuffer bg_curv_write.Post second
+bg-write-curv-one = one-both (λ κs a e f l m. curv-writer.write-one)
 
-  pub bg-curve-one : {r s : Parametric} → Carried asParametric (CurvePromise b) r → Carried asParametric (CurvePromise b) s → r ≡ s
-  bg-curve-one = one-answer (λ a b x y. curve-one x y)
+pub bg-para-one : OneAnswer bg_para_read.Post
+bg-para-one = one-answer (λ κs a l m. para.read-one)
 
-pub bg-write-curv-one : {t out out′ out″ : List ℕ} {r s : ℕ} → Carried numberOfDone (λ d. curv-writer.WritePromise t out d out′) r → Carried numberOfDone (λ d. curv-writer.WritePromise t out d out″) s → (r ≡ s) × (out′ ≡ out″)
-bg-write-curv-one = one-both (λ a b x y. curv-writer-laws.write-one x y)
+pub bg-curve-one : OneAnswer bg_para_curve.Post
+bg-curve-one = one-answer (λ κs a l m. curve-one)
 
-pub bg-write-para-one : {t : ℕ} {m : Raw} {out out′ out″ : List ℕ} {r s : ℕ} → Carried numberOfDone (λ d. para-writer.WritePromise t (fromRaw m) out d out′) r → Carried numberOfDone (λ d. para-writer.WritePromise t (fromRaw m) out d out″) s → (r ≡ s) × (out′ ≡ out″)
-bg-write-para-one = one-both (λ a b x y. para-writer-laws.write-one x y)
+pub bg-write-para-one : OneAnswerAndBuffer bg_para_write.Post third
+bg-write-para-one = one-both (λ κs a e f l m. para-writer.write-one)
 
 -- The part of a tag: two starts that lead to one place are one.
-pub bg-part-one : {tag : RefT (List ℕ)} {r s : Part} → PartCarried tag r → PartCarried tag s → r ≡ s
-bg-part-one {tag} {r} {s} x y =
+pub part-carried-one : {tag : RefT (List ℕ)} {r s : Part} → PartCarried tag r → PartCarried tag s → r ≡ s
+part-carried-one {tag} {r} {s} x y =
     let same = part-one (x .kept) (y .kept) in
     let place : past (r .start) (tag .ptr) ≡ past (s .start) (tag .ptr) = sym (x .start) ∙ same .2 ∙ y .start in
     let after : r .start + tag .ptr .1 ≡ s .start + tag .ptr .1 = ap (λ (p : ℕ × ℕ). p .1) place in
     let start : r .start ≡ s .start = omega arith in
     let len : r .len ≡ s .len = x .len ∙ ap length (same .1) ∙ sym (y .len) in
     λ i. record { refusal = same .0 i; start = start i; len = len i }
+
+pub bg-part-one : OneAnswer bg_curv_part.Post
+bg-part-one κs a r s e f = part-carried-one
+
+-- The version.
+pub bg-version-one : OneAnswer bg_version.Post
+bg-version-one κs a r s e f x y = x ∙ sym y

@@ -28,9 +28,9 @@ use Rattle.plain_answers.specs.declared.Count.{Count}
 use Rattle.brassgroat.specs.declared.curv_tags.Part.{Part}
 use Rattle.plain_answers.specs.declared.Para.{Para}
 use Rattle.brassgroat.specs.Carried.{Carried, PartCarried}
-use Rattle.plain_answers.specs.Answers.{asSample, asPosition, asCode, asReal, asCurve, asParametric, asRaw, asMonotony, asDegeneration, asCount, asPara}
+use Rattle.plain_answers.specs.Answers.{asSample, asPosition, asCode, asReal, asParametric, asMonotony, asDegeneration, asCount, asPara}
 use Rattle.brassgroat.proofs.Parts.{part-refused}
-use Rattle.brassgroat.proofs.One.{bg-part-one}
+use Rattle.brassgroat.proofs.One.{part-carried-one}
 
 -- Where each answer of the library is either granted or has nothing in its other places, so it is with what crosses.
 module _ {L R : Type 0} {places : L → R} {promise : L → Type 0} {r : R} (number : R → ℕ) (bare : ℕ → R) (each : (l : L) → (number (places l) ≡ 0) ⊎ (places l ≡ bare (number (places l)))) where
@@ -55,7 +55,7 @@ abbrev pub bareReal : ℕ → Real
 bareReal n = record { refusal = n; value = nought }
 
 abbrev pub bareParametric : ℕ → Parametric
-bareParametric n = record { refusal = n; curve = asCurve noCurve }
+bareParametric n = record { refusal = n; curve = noCurve }
 
 abbrev pub bareMonotony : ℕ → Monotony
 bareMonotony n = record { refusal = n; yes = false; violations = 0 }
@@ -67,7 +67,7 @@ abbrev pub bareCount : ℕ → Count
 bareCount n = record { refusal = n; entries = 0 }
 
 abbrev pub barePara : ℕ → Para
-barePara n = record { refusal = n; count = 0; numbers = asRaw noNumbers }
+barePara n = record { refusal = n; count = 0; numbers = noNumbers }
 
 -- And so of each kind: refused, it is that and no more.
 pub sample-refused : {promise : Looked → Type 0} {r : Sample} → Carried asSample promise r → (r .refusal ≡ 0 → ⊥) → r ≡ bareSample (r .refusal)
@@ -137,4 +137,4 @@ para-refused = bare-refused (λ (x : Para). x .refusal) barePara each
 
 -- The part of a tag too.
 pub part-bare : {tag : RefT (List ℕ)} {r : Part} → PartCarried tag r → (r .refusal ≡ 0 → ⊥) → r ≡ record { refusal = r .refusal; start = 0; len = 0 }
-part-bare c some = bg-part-one c (part-refused (c .kept) some)
+part-bare c some = part-carried-one c (part-refused (c .kept) some)

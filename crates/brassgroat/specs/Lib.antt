@@ -1,2 +1,3 @@
--- `Carried`: how a promise of the library becomes one of the face.
+-- `Carried`: how a promise of the library becomes one of the face. `Contract`: what it is for a contract to name one answer.
 pub mod Carried
+pub mod Contract

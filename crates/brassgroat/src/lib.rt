@@ -9,3 +9,4 @@ pub mod lookups;
 pub mod para_tags;
 pub mod parametrics;
 pub mod verdicts;
+pub mod version;

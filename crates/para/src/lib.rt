@@ -13,7 +13,8 @@ ghost use Rattle.para.specs.Promises.{ReadPromise};
 
 pub mod inside;
 
-// Seven raw 16.16 numbers in a tag's order, by ICC.1's letters.
+// Seven raw 16.16 numbers in a tag's order, by ICC.1's letters. C and Rust see them as they stand here.
+#[repr(C)]
 pub struct Numbers {
     pub g: i32,
     pub a: i32,

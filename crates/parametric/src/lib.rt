@@ -9,7 +9,8 @@ ghost use Rattle.parametric.specs.Compare.{far};
 ghost use Rattle.parametric.specs.Promises.{NewPromise, ComparePromise};
 ghost use Rattle.parametric.specs.Unify.{ofOne, ofThree, ofFour, ofFive, counted, unified};
 
-// (aX + b)^g + e from X = d on, cX + f below.
+// (aX + b)^g + e from X = d on, cX + f below. C and Rust see it as it stands here.
+#[repr(C)]
 pub struct ParametricCurve {
     pub g: f32,
     pub a: f32,

@@ -1,4 +1,6 @@
--- The places of each answer that crosses: document 01's number, and its values, which are 0 where the answer is a refusal. Assumes nothing.
+-- The places of each answer that crosses: document 01's number, and its values, which are 0 where the answer is a refusal; and the version of these
+-- places. Assumes nothing.
+use Prim.Native.Nat.{ℕ}
 use mathlib.Core.Bool.{Bool, true, false}
 use lib.Dec.{eqb}
 use Rattle.table.specs.Answers.{numberOfLooked, valueOfLooked, numberOfSought, valueOfSought}
@@ -8,7 +10,6 @@ use Rattle.gamma.specs.declared.Coded.{Coded}
 use Rattle.gamma.specs.Promises.{numberOfCoded, valueOfCoded}
 use Rattle.interp.specs.declared.Interpolated.{Interpolated}
 use Rattle.interp.specs.Promises.{numberOfInterpolated, valueOfInterpolated}
-use Rattle.parametric.specs.declared.ParametricCurve.{ParametricCurve}
 use Rattle.parametric.specs.declared.Unified.{Unified}
 use Rattle.parametric.specs.Promises.{numberOfUnified, valueOfUnified}
 use Rattle.monotonic.specs.declared.Direction.{Direction}
@@ -19,19 +20,16 @@ use Rattle.monotonic.specs.Promises.{numberOfMonotonic, yesOfMonotonic, violati
 use Rattle.degeneration.specs.Promises.{numberOfDegenerated, yesOfDegenerated}
 use Rattle.curv.specs.declared.Counted.{Counted}
 use Rattle.curv.specs.Answers.{numberOfCounted, valueOfCounted}
-use Rattle.para.specs.declared.Numbers.{Numbers}
 use Rattle.para.specs.declared.Read.{Read}
 use Rattle.para.specs.Answers.{numberOfRead, countOfRead, numbersOfRead}
 use Rattle.plain_answers.specs.declared.Sample.{Sample}
 use Rattle.plain_answers.specs.declared.Position.{Position}
 use Rattle.plain_answers.specs.declared.Code.{Code}
 use Rattle.plain_answers.specs.declared.Real.{Real}
-use Rattle.plain_answers.specs.declared.Curve.{Curve}
 use Rattle.plain_answers.specs.declared.Parametric.{Parametric}
 use Rattle.plain_answers.specs.declared.Monotony.{Monotony}
 use Rattle.plain_answers.specs.declared.Degeneration.{Degeneration}
 use Rattle.plain_answers.specs.declared.Count.{Count}
-use Rattle.plain_answers.specs.declared.Raw.{Raw}
 use Rattle.plain_answers.specs.declared.Para.{Para}
 
 abbrev pub asSample : Looked → Sample
@@ -46,21 +44,11 @@ asCode l = record { refusal = numberOfCoded l; code = valueOfCoded l }
 abbrev pub asReal : Interpolated → Real
 asReal l = record { refusal = numberOfInterpolated l; value = valueOfInterpolated l }
 
--- seven floats, and seven raw numbers, there and back
-abbrev pub asCurve : ParametricCurve → Curve
-asCurve p = record { g = p .g; a = p .a; b = p .b; c = p .c; d = p .d; e = p .e; f = p .f }
-
-abbrev pub asRaw : Numbers → Raw
-asRaw m = record { g = m .g; a = m .a; b = m .b; c = m .c; d = m .d; e = m .e; f = m .f }
-
-abbrev pub fromRaw : Raw → Numbers
-fromRaw m = record { g = m .g; a = m .a; b = m .b; c = m .c; d = m .d; e = m .e; f = m .f }
-
 abbrev pub asParametric : Unified → Parametric
-asParametric l = record { refusal = numberOfUnified l; curve = asCurve (valueOfUnified l) }
+asParametric l = record { refusal = numberOfUnified l; curve = valueOfUnified l }
 
 abbrev pub asPara : Read → Para
-asPara l = record { refusal = numberOfRead l; count = countOfRead l; numbers = asRaw (numbersOfRead l) }
+asPara l = record { refusal = numberOfRead l; count = countOfRead l; numbers = numbersOfRead l }
 
 -- a direction crosses as whether it is rising, and yes or no, document 01's 1 or 0, as a bool
 abbrev pub asDirection : Bool → Direction
@@ -75,3 +63,7 @@ asDegeneration l = record { refusal = numberOfDegenerated l; yes = eqb (yesOfDeg
 
 abbrev pub asCount : Counted → Count
 asCount l = record { refusal = numberOfCounted l; entries = valueOfCounted l }
+
+-- 0.2.0, as include/brassgroat.h and bindings/rust/Cargo.toml have it; face/test compares the three
+abbrev pub version : ℕ
+version = 200

@@ -1,13 +1,11 @@
-// Each answer of the library turned into its places, and back what C hands in: for the face alone, no door of the library.
+// Each answer of the library turned into its places, and C's bool into a direction: for the face alone, no door of the library.
 use crate::Code;
 use crate::Count;
-use crate::Curve;
 use crate::Degeneration;
 use crate::Monotony;
 use crate::Para;
 use crate::Parametric;
 use crate::Position;
-use crate::Raw;
 use crate::Real;
 use crate::Sample;
 use curv::Counted;
@@ -28,7 +26,7 @@ use table::Sought;
 use table::number;
 ghost use mathlib.Core.Path.{_≡_};
 ghost use Rattle.table.specs.Answers.{numberOfDone};
-ghost use Rattle.plain_answers.specs.Answers.{asSample, asPosition, asCode, asReal, asCurve, asParametric, asDirection, asMonotony, asDegeneration, asCount, asRaw, fromRaw, asPara};
+ghost use Rattle.plain_answers.specs.Answers.{asSample, asPosition, asCode, asReal, asParametric, asDirection, asMonotony, asDegeneration, asCount, asPara};
 
 pub fn number_of_done(answer: Done) -> u32
     ensures { λ r. ⌜ r ≡ numberOfDone answer ⌝ }
@@ -90,31 +88,14 @@ pub fn as_real(answer: Interpolated) -> Real
     }
 }
 
-pub fn as_curve(curve: ParametricCurve) -> Curve
-    ensures { λ r. ⌜ r ≡ asCurve curve ⌝ }
-{
-    Curve {
-        g: curve.g,
-        a: curve.a,
-        b: curve.b,
-        c: curve.c,
-        d: curve.d,
-        e: curve.e,
-        f: curve.f,
-    }
-}
-
 pub fn as_parametric(answer: Unified) -> Parametric
     ensures { λ r. ⌜ r ≡ asParametric answer ⌝ }
 {
     match answer {
-        Unified::Curve(curve) => Parametric {
-            refusal: 0,
-            curve: as_curve(curve),
-        },
+        Unified::Curve(curve) => Parametric { refusal: 0, curve },
         Unified::Refused(why) => Parametric {
             refusal: number(why),
-            curve: Curve {
+            curve: ParametricCurve {
                 g: 0.0,
                 a: 0.0,
                 b: 0.0,
@@ -172,7 +153,7 @@ pub fn as_degeneration(answer: Degenerated) -> Degeneration
         },
         Degenerated::Refused(why) => Degeneration {
             refusal: number(why),
-            yes: false,
+            yes: false, // 0 in every other place, as document 01 has it
         },
     }
 }
@@ -192,34 +173,6 @@ pub fn as_count(answer: Counted) -> Count
     }
 }
 
-pub fn as_raw(numbers: Numbers) -> Raw
-    ensures { λ r. ⌜ r ≡ asRaw numbers ⌝ }
-{
-    Raw {
-        g: numbers.g,
-        a: numbers.a,
-        b: numbers.b,
-        c: numbers.c,
-        d: numbers.d,
-        e: numbers.e,
-        f: numbers.f,
-    }
-}
-
-pub fn from_raw(raw: Raw) -> Numbers
-    ensures { λ r. ⌜ r ≡ fromRaw raw ⌝ }
-{
-    Numbers {
-        g: raw.g,
-        a: raw.a,
-        b: raw.b,
-        c: raw.c,
-        d: raw.d,
-        e: raw.e,
-        f: raw.f,
-    }
-}
-
 pub fn as_para(answer: Read) -> Para
     ensures { λ r. ⌜ r ≡ asPara answer ⌝ }
 {
@@ -227,12 +180,12 @@ pub fn as_para(answer: Read) -> Para
         Read::Parameters(count, numbers) => Para {
             refusal: 0,
             count,
-            numbers: as_raw(numbers),
+            numbers,
         },
         Read::Refused(why) => Para {
             refusal: number(why),
             count: 0,
-            numbers: Raw {
+            numbers: Numbers {
                 g: 0,
                 a: 0,
                 b: 0,

@@ -1,9 +1,21 @@
 // The library's answers as C and Rust see them: each a struct of plain places, the refusal's number first and 0 in every other place of a refused one.
 // include/brassgroat.h has the same structs; the face, brassgroat, hands them over.
+use para::Numbers;
+use parametric::ParametricCurve;
 use table::Density;
 use table::Drive;
+ghost use mathlib.Core.Path.{_≡_};
+ghost use Rattle.plain_answers.specs.Answers.{version};
 
 pub mod inside;
+
+// Which version of these structs, and of the exports over them, this is: 10,000 times its first number, 100 times its second, and its third. A program
+// that was built against another one's header or Rust crate can tell by it.
+pub fn version() -> u32
+    ensures { λ r. ⌜ r ≡ version ⌝ }
+{
+    200
+}
 
 // A sample.
 #[repr(C)]
@@ -33,23 +45,11 @@ pub struct Real {
     pub value: f32,
 }
 
-// Seven floats, by ICC.1's letters.
-#[repr(C)]
-pub struct Curve {
-    pub g: f32,
-    pub a: f32,
-    pub b: f32,
-    pub c: f32,
-    pub d: f32,
-    pub e: f32,
-    pub f: f32,
-}
-
 // A parametric curve.
 #[repr(C)]
 pub struct Parametric {
     pub refusal: u32,
-    pub curve: Curve,
+    pub curve: ParametricCurve,
 }
 
 // Whether a curve goes one way, and how many steps are against it.
@@ -74,22 +74,10 @@ pub struct Count {
     pub entries: usize,
 }
 
-// Seven raw 16.16 numbers, by ICC.1's letters.
-#[repr(C)]
-pub struct Raw {
-    pub g: i32,
-    pub a: i32,
-    pub b: i32,
-    pub c: i32,
-    pub d: i32,
-    pub e: i32,
-    pub f: i32,
-}
-
 // How many numbers a para tag has, and seven, of which the others are 0.
 #[repr(C)]
 pub struct Para {
     pub refusal: u32,
     pub count: usize,
-    pub numbers: Raw,
+    pub numbers: Numbers,
 }

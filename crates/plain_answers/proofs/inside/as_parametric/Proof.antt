@@ -5,9 +5,6 @@ use Rattle.plain_answers.proofs.inside.as_parametric.Tie as tie
 enum-known-answer : tie.Need-enum-known-answer
 enum-known-answer c = c .match .keys1
 
-as-curve-requires : tie.Need-as-curve-requires
-as-curve-requires c κs = tt
-
 enum-known-answer-2 : tie.Need-enum-known-answer-2
 enum-known-answer-2 c = c .match .keys2
 
@@ -15,10 +12,10 @@ number-requires : tie.Need-number-requires
 number-requires c κs = tt
 
 returns : tie.Need-returns
-returns c = rw (c .before .before .answer .given .1, c .as-curve .ensures)
+returns c = rw (c .before .answer .given .1)
 
 returns-2 : tie.Need-returns-2
 returns-2 c = rw (c .before .before .answer2 .given .1, c .number .ensures)
 
 pub as-parametric-spec : {M : Type 1} → statement M
-as-parametric-spec = tie.close (tie.spec enum-known-answer as-curve-requires enum-known-answer-2 number-requires returns returns-2)
+as-parametric-spec = tie.close (tie.spec enum-known-answer enum-known-answer-2 number-requires returns returns-2)
