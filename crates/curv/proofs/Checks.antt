@@ -4,28 +4,31 @@ use mathlib.Core.Bool.{true, false}
 use mathlib.Core.List.{List}
 use Prim.Native.Nat.{ℕ, _+_, _*_, _≤_, _<_}
 use native.Mathlib.Omega.{arith}
-use borrow.Author.Tests.{leb-true, le-leb, lt-leb, eqb-true, eq-eqb}
+use borrow.Author.Tests.{leb-true, le-leb, lt-leb, eqb-true, eq-eqb, ne-eqb}
 use lib.ListN.{length}
-use Rattle.table.specs.Sizes.{notAbove}
 use Rattle.table.specs.Refusals.{granted, refused}
 use Rattle.table.specs.declared.Refusal.the-variants.{TableLength, TagLength, WrongSignature, ReservedNotZero}
 use Rattle.table.proofs.Refusals.{rung-granted}
-use Rattle.icc.specs.Opening.{reservedZero}
-use Rattle.curv.specs.Tag.{isCurv, countOf, total, tagLength}
+use Rattle.icc.specs.Opening.{signatureOf, reservedOf}
+use Rattle.curv.specs.Tag.{signature, countOf, total, tagLength}
 use Rattle.curv.specs.Promises.{tagVerdict}
 
 -- Which totals a tag may have: the one that is written, and no other; so that its entries lie within it.
-module _ (n : ℕ) where
-  pub total-written : total n (tagLength n) ≡ true
+module _ (n len : ℕ) where
+  pub total-right : len ≡ tagLength n → total n len ≡ true
   unfolding total
-  total-written = eq-eqb (tagLength n) (12 + 2 * n) refl
+  total-right e = eq-eqb _ _ e
 
-  pub total-exact : (len : ℕ) → total n len ≡ true → len ≡ tagLength n
+  pub total-other : (len ≡ tagLength n → ⊥) → total n len ≡ false
   unfolding total
-  total-exact len e = eqb-true _ _ e
+  total-other e = ne-eqb _ _ e
 
-  pub total-room : (len : ℕ) → total n len ≡ true → 12 + 2 * n ≤ len
-  total-room len e = omega (arith, total-exact len e)
+  pub total-exact : total n len ≡ true → len ≡ tagLength n
+  unfolding total
+  total-exact e = eqb-true _ _ e
+
+  pub total-room : total n len ≡ true → 12 + 2 * n ≤ len
+  total-room e = omega (arith, total-exact e)
 
 -- The checks in their order, each past the ones before it.
 module _ (b : List ℕ) where
@@ -34,36 +37,34 @@ module _ (b : List ℕ) where
   short h = simp (lt-leb _ _ h)
 
   module _ (twelve : 12 ≤ length b) where
-    pub unsigned : isCurv b ≡ false → tagVerdict b ≡ refused WrongSignature
+    pub unsigned : (signatureOf b ≡ signature → ⊥) → tagVerdict b ≡ refused WrongSignature
     unfolding tagVerdict
-    unsigned e = simp (le-leb _ _ twelve, e)
+    unsigned e = simp (le-leb _ _ twelve, ne-eqb _ _ e)
 
-    module _ (signed : isCurv b ≡ true) where
-      pub unreserved : reservedZero b ≡ false → tagVerdict b ≡ refused ReservedNotZero
+    module _ (signed : signatureOf b ≡ signature) where
+      pub unreserved : (reservedOf b ≡ 0 → ⊥) → tagVerdict b ≡ refused ReservedNotZero
       unfolding tagVerdict
-      unreserved e = simp (le-leb _ _ twelve, signed, e)
+      unreserved e = simp (le-leb _ _ twelve, eq-eqb _ _ signed, ne-eqb _ _ e)
 
-      module _ (zeros : reservedZero b ≡ true) where
-        -- n being the count as it was read
-        module _ (n : ℕ) (read : n ≡ countOf b) where
-          pub many : notAbove n ≡ false → tagVerdict b ≡ refused TableLength
+      module _ (zeros : reservedOf b ≡ 0) where
+        pub many : 65536 < countOf b → tagVerdict b ≡ refused TableLength
+        unfolding tagVerdict
+        many h = simp (le-leb _ _ twelve, eq-eqb _ _ signed, eq-eqb _ _ zeros, lt-leb _ _ h)
+
+        module _ (few : countOf b ≤ 65536) where
+          pub unwhole : total (countOf b) (length b) ≡ false → tagVerdict b ≡ refused TagLength
           unfolding tagVerdict
-          many e = rw (← read) (simp (le-leb _ _ twelve, signed, zeros, e))
+          unwhole e = simp (le-leb _ _ twelve, eq-eqb _ _ signed, eq-eqb _ _ zeros, le-leb _ _ few, e)
 
-          module _ (few : notAbove n ≡ true) where
-            pub unwhole : total n (length b) ≡ false → tagVerdict b ≡ refused TagLength
-            unfolding tagVerdict
-            unwhole e = rw (← read) (simp (le-leb _ _ twelve, signed, zeros, few, e))
-
-            pub right : total n (length b) ≡ true → tagVerdict b ≡ granted
-            unfolding tagVerdict
-            right e = rw (← read) (simp (le-leb _ _ twelve, signed, zeros, few, e))
+          pub right : total (countOf b) (length b) ≡ true → tagVerdict b ≡ granted
+          unfolding tagVerdict
+          right e = simp (le-leb _ _ twelve, eq-eqb _ _ signed, eq-eqb _ _ zeros, le-leb _ _ few, e)
 
 -- what a tag is that passes them all
 pub record Readable (b : List ℕ) : Type 0 where
   pub twelve : 12 ≤ length b
-  pub signed : isCurv b ≡ true
-  pub zeros : reservedZero b ≡ true
+  pub signed : signatureOf b ≡ signature
+  pub zeros : reservedOf b ≡ 0
   pub few : countOf b ≤ 65536
   pub whole : total (countOf b) (length b) ≡ true
 
@@ -75,7 +76,13 @@ readable b e =
     let r = rung-granted _ _ _ (q .1) in
     let s = rung-granted _ _ _ (r .1) in
     let t = rung-granted _ _ _ (s .1) in
-    record { twelve = leb-true _ _ (p .0); signed = q .0; zeros = r .0; few = leb-true _ _ (s .0); whole = t .0 }
+    record {
+      twelve = leb-true _ _ (p .0);
+      signed = eqb-true _ _ (q .0);
+      zeros = eqb-true _ _ (r .0);
+      few = leb-true _ _ (s .0);
+      whole = t .0;
+    }
 
 pub grants : (b : List ℕ) → Readable b → tagVerdict b ≡ granted
-grants b r = right b (r .twelve) (r .signed) (r .zeros) (countOf b) refl (le-leb _ _ (r .few)) (r .whole)
+grants b r = right b (r .twelve) (r .signed) (r .zeros) (r .few) (r .whole)

@@ -1,9 +1,10 @@
--- Worked examples, by computation: tags of no, one and two entries, and two of them counted. Assumes nothing.
+-- Worked examples, by computation: tags of no, one and two entries; the last is eight bits wide, and two are counted.
+-- Assumes nothing.
 use mathlib.Core.Path.{refl}
 use mathlib.Core.List.{List, [], _∷_}
 use Prim.Native.Nat.{ℕ}
-use Rattle.icc.specs.Bytes.{be32}
-use Rattle.icc.specs.Opening.{stands}
+use Rattle.icc.specs.Bytes.{EightBits, be32}
+use Rattle.icc.proofs.Widths.{eight-tested}
 use Rattle.curv.specs.declared.Counted.{Counted}
 use Rattle.curv.specs.Tag.{total}
 use Rattle.curv.specs.Promises.{tagVerdict, CountPromise}
@@ -21,10 +22,13 @@ one = begun (0 ∷ 0 ∷ 0 ∷ 1 ∷ 2 ∷ 51 ∷ [])
 abbrev pub two : List ℕ
 two = begun (0 ∷ 0 ∷ 0 ∷ 2 ∷ 18 ∷ 52 ∷ 255 ∷ 254 ∷ [])
 
+pub two-eight : EightBits two
+two-eight = eight-tested two refl
+
 none-counted : CountPromise none (Counted.Entries 0)
-unfolding tagVerdict stands total be32
+unfolding tagVerdict total be32
 none-counted = record { number = refl; value = refl }
 
 two-counted : CountPromise two (Counted.Entries 2)
-unfolding tagVerdict stands total be32
+unfolding tagVerdict total be32
 two-counted = record { number = refl; value = refl }

@@ -5,11 +5,10 @@ use mathlib.Core.List.{List}
 use lib.Dec.{eqb}
 use Rattle.table.specs.Fill.{tabulated}
 use Rattle.icc.specs.Bytes.{be16, be32}
-use Rattle.icc.specs.Opening.{signedBy}
 
--- the signature
-abbrev pub isCurv : List ℕ → Bool
-isCurv b = signedBy 0x63 0x75 0x72 0x76 b
+-- the signature, "curv"
+abbrev pub signature : ℕ
+signature = 0x6375_7276
 
 -- What a tag holds: its count, at byte 8; entry i, the two bytes at 12 + 2i; and its entries, as many as the count says.
 abbrev pub countOf : List ℕ → ℕ

@@ -5,7 +5,7 @@ use Prim.Native.Nat.{ℕ}
 use native.Mathlib.Omega.{arith}
 use borrow.Author.Tests.{eq-eqb, ne-eqb, eqb-true}
 use lib.ListN.{length}
-use Rattle.table.specs.Refusals.{Verdict, granted, refused}
+use Rattle.table.specs.Refusals.{Verdict, granted, refused, andThen}
 use Rattle.table.specs.Fill.{tabulated}
 use Rattle.table.specs.declared.Done.{Done}
 use Rattle.table.specs.declared.Refusal.{Refusal}
@@ -15,7 +15,7 @@ use Rattle.table.proofs.Answers.{same-done}
 use Rattle.curv.specs.Tag.{countOf, entryAt, entriesOf}
 use Rattle.curv.specs.Promises.{tagVerdict}
 use Rattle.curv.proofs.Promises.{verdict-number, verdict-gives}
-use Rattle.curv_reader.specs.Promises.{andThen, readVerdict, ReadPromise}
+use Rattle.curv_reader.specs.Promises.{readVerdict, ReadPromise}
 
 and-then-granted : (v w : Verdict) → andThen v w ≡ granted → (v ≡ granted) × (w ≡ granted)
 and-then-granted granted w e = (refl, e)

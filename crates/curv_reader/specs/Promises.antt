@@ -4,17 +4,12 @@ use Prim.Native.Nat.{ℕ}
 use mathlib.Core.List.{List}
 use lib.ListN.{length}
 use lib.Dec.{eqb}
-use Rattle.table.specs.Refusals.{Verdict, granted, refused, rung, numberIn, ifGranted}
+use Rattle.table.specs.Refusals.{Verdict, granted, rung, andThen, numberIn, ifGranted}
 use Rattle.table.specs.Answers.{numberOfDone}
 use Rattle.table.specs.declared.Done.{Done}
 use Rattle.table.specs.declared.Refusal.the-variants.{OutputLength}
 use Rattle.curv.specs.Tag.{countOf, entriesOf}
 use Rattle.curv.specs.Promises.{tagVerdict}
-
--- a call's own checks, after the tag's
-abbrev pub andThen : Verdict → Verdict → Verdict
-andThen granted rest = rest
-andThen (refused why) rest = refused why
 
 -- Reading a tag's entries: refused as the tag is, and then for a buffer of other than as many entries, 6.
 abbrev pub readVerdict : List ℕ → List ℕ → Verdict

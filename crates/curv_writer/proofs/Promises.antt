@@ -1,11 +1,9 @@
 -- How the promise is met, case by case; what an answer that keeps it tells; and that it names one answer and one later state. Assumes nothing.
 use mathlib.Core.Path.{_≡_, _∙_, refl, sym}
-use mathlib.Core.Bool.{false}
 use mathlib.Core.List.{List}
-use Prim.Native.Nat.{ℕ, _≤_}
-use borrow.Author.Tests.{le-leb, eq-eqb, ne-eqb, leb-true, eqb-true}
+use Prim.Native.Nat.{ℕ, _≤_, _<_}
+use borrow.Author.Tests.{le-leb, lt-leb, eq-eqb, ne-eqb, leb-true, eqb-true}
 use lib.ListN.{length}
-use Rattle.table.specs.Sizes.{notAbove}
 use Rattle.table.specs.Refusals.{granted, refused}
 use Rattle.table.specs.declared.Done.{Done}
 use Rattle.table.specs.declared.Refusal.{Refusal}
@@ -20,8 +18,8 @@ module _ (t out : List ℕ) where
   write-refusal : (why : Refusal) → writeVerdict t out ≡ refused why → WritePromise t out (Done.Refused why) out
   write-refusal why e = record { number = simp e; after = simp e }
 
-  pub write-many : notAbove (length t) ≡ false → WritePromise t out (Done.Refused TableLength) out
-  write-many e = write-refusal TableLength (rw e refl)
+  pub write-many : 65536 < length t → WritePromise t out (Done.Refused TableLength) out
+  write-many h = write-refusal TableLength (rw (lt-leb _ _ h) refl)
 
   pub write-misfit : length t ≤ 65536 → (length out ≡ tagLength (length t) → ⊥) → WritePromise t out (Done.Refused OutputLength) out
   write-misfit h n = write-refusal OutputLength (rw (le-leb _ _ h, ne-eqb _ _ n) refl)

@@ -6,7 +6,8 @@ use native.Mathlib.Omega.{arith}
 use denote.Ref.{RefT, now}
 use lib.ListN.{length, take, drop}
 use lib.Seq.{take-add, take-all, drop-at}
-use Rattle.table.specs.Refusals.{granted}
+use Rattle.table.specs.Refusals.{Verdict, granted, refused, numberIn}
+use Rattle.table.specs.Order.{SixteenBits}
 use Rattle.table.specs.declared.Done.{Done}
 use Rattle.table.specs.Fill.{tabulated}
 use Rattle.table.proofs.Fill.{length-tabulated}
@@ -16,7 +17,7 @@ use Rattle.icc.specs.Opening.{opening}
 use Rattle.icc.proofs.Opening.{opens}
 use Rattle.icc.proofs.Words.{two-bytes, length-words, words-back, words-kept}
 use Rattle.curv.specs.declared.Counted.{Counted}
-use Rattle.curv.specs.Tag.{countOf, entryAt, entriesOf, tagLength}
+use Rattle.curv.specs.Tag.{signature, countOf, entryAt, entriesOf, tagLength}
 use Rattle.curv.specs.Promises.{tagVerdict, CountPromise}
 use Rattle.curv_reader.specs.Promises.{ReadPromise}
 use Rattle.curv_part.specs.Promises.{partOf, PartPromise}
@@ -25,8 +26,8 @@ use Rattle.curv.proofs.Promises.{count-one, count-granted}
 use Rattle.curv_reader.proofs.Promises.{granted-read, read-one, read-granted}
 use Rattle.curv_part.proofs.Promises.{granted-part}
 use Rattle.curv_writer.specs.Written.{head, bytesOf, tagOf}
-use Rattle.curv_writer.specs.Promises.{WritePromise}
-use Rattle.curv_writer.proofs.Written.{length-head, tag-count, tag-readable}
+use Rattle.curv_writer.specs.Promises.{writeVerdict, WritePromise}
+use Rattle.curv_writer.proofs.Written.{length-head, tag-count, tag-readable, tag-eight}
 use Rattle.curv_writer.proofs.Promises.{granted-write, write-one, write-granted}
 
 -- the bytes of the part are those of the entries
@@ -41,8 +42,8 @@ head-read b w r =
     let twelve = r .twelve in
     sym (
     take-add 8 4 b
-    ∙ ap (λ (l : List ℕ). l ++ take 4 (drop 8 b)) (opens 0x63 0x75 0x72 0x76 b (omega arith) (r .signed) (r .zeros))
-    ∙ ap (λ (l : List ℕ). opening 0x63 0x75 0x72 0x76 ++ l) (sym (bytes-be32 b w 8 twelve))
+    ∙ ap (λ (l : List ℕ). l ++ take 4 (drop 8 b)) (opens signature b w (omega arith) (r .signed) (r .zeros))
+    ∙ ap (λ (l : List ℕ). opening signature ++ l) (sym (bytes-be32 b w 8 twelve))
     )
 
 -- and the whole is what is written for its entries
@@ -101,3 +102,28 @@ read-writes {b} {out} {t} {buffer} w read e p =
     let room : length buffer ≡ tagLength (length t) = omega (arith, total-exact (countOf b) (length b) (ok .whole)) in
     let s = write-one p (write-granted t buffer _ few room refl) in
     (s .0, s .1 ∙ ap tagOf (g .2) ∙ tag-rewritten b w ok)
+
+-- What is written for 16-bit entries is eight bits wide,
+pub written-eight : {t out tag : List ℕ} → SixteenBits t → WritePromise t out Done.Yes tag → EightBits tag
+written-eight {t} {out} wide written =
+    let g = granted-write t out written in
+    rw (g .2) (tag-eight t (g .0) wide)
+
+-- and so, whatever a write answers, is the buffer after it, if it was before.
+pub write-keeps-eight : {t out out′ : List ℕ} {r : Done}
+    → SixteenBits t → EightBits out → WritePromise t out r out′ → EightBits out′
+write-keeps-eight {t} {out} {out′} wide eight p = go (writeVerdict t out) refl
+  where
+    go : (v : Verdict) → writeVerdict t out ≡ v → EightBits out′
+    go granted e = written-eight {t = t} {out = out} wide (record { number = ap numberIn (sym e); after = p .after })
+    go (refused why) e = rw (simp e at (p .after)) eight
+
+-- So what was written is read, and written again the same, with nothing asked of its bytes: a write leaves what
+-- `read-writes` asks for.
+pub written-rewrites : {t out tag buffer t′ again tag′ : List ℕ} {q r : Done} → SixteenBits t
+    → WritePromise t out Done.Yes tag
+    → length buffer ≡ length t → ReadPromise tag buffer q t′ → length again ≡ length tag → WritePromise t′ again r tag′
+    → (r ≡ Done.Yes) × (tag′ ≡ tag)
+written-rewrites {tag = tag} {buffer = buffer} {t′ = t′} wide written e read room p =
+    let yes : ReadPromise tag buffer Done.Yes t′ = rw (written-reads written e read .0) at read in
+    read-writes (written-eight wide written) yes room p

@@ -5,10 +5,11 @@ use lib.ListN.{length}
 use Rattle.icc.specs.Bytes.{bytes16, bytes32}
 use Rattle.icc.specs.Words.{inTurn}
 use Rattle.icc.specs.Opening.{opening}
+use Rattle.curv.specs.Tag.{signature}
 
--- the first twelve bytes: 63 75 72 76, four zero bytes, and the count n
+-- the first twelve bytes: the signature, four zero bytes, and the count n
 unfoldable pub head : ℕ → List ℕ
-head n = opening 0x63 0x75 0x72 0x76 ++ bytes32 n
+head n = opening signature ++ bytes32 n
 
 -- and the two bytes of each entry
 abbrev pub bytesOf : List ℕ → List ℕ

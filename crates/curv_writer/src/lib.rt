@@ -1,11 +1,12 @@
 // A table written as the curv tag of ICC.1.
+use curv::inside::MOST;
+use curv::inside::SIGNATURE;
 use curv::inside::tag_length;
 use icc::inside::put_opening;
 use icc::inside::put_u16;
 use icc::inside::put_u32;
 use table::Done;
 use table::Refusal;
-use table::not_above;
 ghost use mathlib.Core.Path.{_≡_};
 ghost use mathlib.Core.List.{_++_};
 ghost use Prim.Native.Nat.{_≤_};
@@ -19,7 +20,7 @@ fn put_head(out: &mut [u8], n: u32)
     requires { ⌜ 12 ≤ length (now out) ⌝ }
     ensures { λ _. ⌜ take 12 (now (out .exit)) ≡ head n ⌝ }
 {
-    put_opening(out, 0x63, 0x75, 0x72, 0x76);
+    put_opening(out, SIGNATURE);
     put_u32(out, 8, n);
 }
 
@@ -39,7 +40,7 @@ fn put_entries(table: &[u16], out: &mut [u8])
 pub fn write_curv(table: &[u16], out: &mut [u8]) -> Done
     ensures { λ r. ⌜ WritePromise (now (table .entry)) (now (out .entry)) r (now (out .exit)) ⌝ }
 {
-    if !not_above(table.len()) {
+    if MOST < table.len() {
         return Done::Refused(Refusal::TableLength);
     }
     if out.len() != tag_length(table.len()) {

@@ -1,77 +1,36 @@
--- The test that given bytes stand somewhere, and the bytes that stand there, each from the other. Assumes nothing.
+-- The first eight bytes of a tag, from the numbers that they make, and those numbers from the bytes. Assumes nothing.
 use mathlib.Core.Path.{_≡_, _∙_, refl, sym, ap}
-use mathlib.Core.Bool.{Bool, true, false}
-use mathlib.Core.List.{List, [], _∷_, _++_, append-assoc}
+use mathlib.Core.List.{List, [], _++_, append-assoc}
 use Prim.Native.Nat.{ℕ, _+_, _≤_}
-use native.Mathlib.Nat.{add-assoc}
-use native.Mathlib.Numerals.{add-one}
 use native.Mathlib.Omega.{arith}
-use borrow.Author.Tests.{eqb-true, eq-eqb, ne-eqb}
 use lib.ListN.{length, getD, take, drop, length-append}
-use lib.Seq.{drop-cons, getD-at, take-add}
-use lib.Dec.{eqb}
-use Rattle.table.specs.Choice.{both}
-use Rattle.table.proofs.Choice.{both-left, both-right}
-use Rattle.icc.specs.Opening.{stands, signedBy, reservedZero, opening}
+use lib.Seq.{take-add}
+use Rattle.icc.specs.Bytes.{EightBits, be32, bytes32}
+use Rattle.icc.specs.Opening.{signatureOf, reservedOf, opening}
+use Rattle.icc.proofs.Numbers.{length-bytes32, be32-bytes, bytes-be32}
 
-pub both-true : (t : Bool) → both t true ≡ t
-both-true true = refl
-both-true false = refl
+-- The reserved bytes make 0 exactly if each of them is 0.
+module _ (b : List ℕ) where
+  pub reserved-each : reservedOf b ≡ 0 → (getD b 4 0 ≡ 0) × (getD b 5 0 ≡ 0) × (getD b 6 0 ≡ 0) × (getD b 7 0 ≡ 0)
+  unfolding be32
+  reserved-each e = (omega arith, omega arith, omega arith, omega arith)
 
--- The test of four bytes, one by one: the first that differs settles it, and past the third the fourth decides.
-module _ (b : List ℕ) (i p q r s : ℕ) where
-  abbrev test : Bool
-  test = stands b i (p ∷ q ∷ r ∷ s ∷ [])
+  pub each-reserved : getD b 4 0 ≡ 0 → getD b 5 0 ≡ 0 → getD b 6 0 ≡ 0 → getD b 7 0 ≡ 0 → reservedOf b ≡ 0
+  unfolding be32
+  each-reserved p q r s = omega arith
 
-  spelt : test ≡ both (eqb (getD b i 0) p) (both (eqb (getD b (i + 1) 0) q) (both (eqb (getD b (i + 2) 0) r) (eqb (getD b (i + 3) 0) s)))
-  unfolding stands
-  spelt = simp (add-assoc, both-true)
+module _ (s : ℕ) where
+  pub length-opening : length (opening s) ≡ 8
+  length-opening = omega (arith, length-append (bytes32 s) (bytes32 0), length-bytes32 s, length-bytes32 0)
 
-  pub first-differs : (getD b i 0 ≡ p → ⊥) → false ≡ test
-  first-differs n = sym (spelt ∙ simp (ne-eqb _ _ n))
-
-  module _ (e : getD b i 0 ≡ p) where
-    pub second-differs : (getD b (i + 1) 0 ≡ q → ⊥) → false ≡ test
-    second-differs n = sym (spelt ∙ simp (eq-eqb _ _ e, ne-eqb _ _ n))
-
-    module _ (f : getD b (i + 1) 0 ≡ q) where
-      pub third-differs : (getD b (i + 2) 0 ≡ r → ⊥) → false ≡ test
-      third-differs n = sym (spelt ∙ simp (eq-eqb _ _ e, eq-eqb _ _ f, ne-eqb _ _ n))
-
-      pub fourth-decides : getD b (i + 2) 0 ≡ r → eqb (getD b (i + 3) 0) s ≡ test
-      fourth-decides g = sym (spelt ∙ simp (eq-eqb _ _ e, eq-eqb _ _ f, eq-eqb _ _ g))
-
--- where the test holds, the bytes that stand there are those listed
-pub stands-bytes : (b : List ℕ) (i : ℕ) (l : List ℕ) → i + length l ≤ length b → stands b i l ≡ true → take (length l) (drop i b) ≡ l
-unfolding stands
-stands-bytes b i [] h e = refl
-stands-bytes b i (x ∷ l) h e =
-    let here : getD b i 0 ≡ x = eqb-true _ _ (both-left (eqb (getD b i 0) x) (stands b (i + 1) l) e) in
-    let rest : take (length l) (drop (i + 1) b) ≡ l
-    = stands-bytes b (i + 1) l (omega arith) (both-right (eqb (getD b i 0) x) (stands b (i + 1) l) e) in
-    rw (drop-cons b i 0 (omega arith), here, ← add-one i, rest) refl
-
--- and where they stand, it holds
-pub bytes-stand : (p l q : List ℕ) (i : ℕ) → length p ≡ i → stands (p ++ (l ++ q)) i l ≡ true
-unfolding stands
-bytes-stand p [] q i e = refl
-bytes-stand p (x ∷ l) q i e =
-    let here : eqb (getD (p ++ (x ∷ (l ++ q))) i 0) x ≡ true = eq-eqb _ _ (getD-at p x (l ++ q) 0 i e) in
-    let long : length (p ++ (x ∷ [])) ≡ i + 1 = simp length-append (omega arith) in
-    let rest : stands (p ++ (x ∷ (l ++ q))) (i + 1) l ≡ true
-    = rw (← append-assoc p (x ∷ []) (l ++ q)) (bytes-stand (p ++ (x ∷ [])) l q (i + 1) long) in
-    simp (here, rest)
-
--- The first eight bytes of a tag, from the tests on them, and the tests from the bytes.
-module _ (p q r s : ℕ) where
-  pub opens : (b : List ℕ) → 8 ≤ length b → signedBy p q r s b ≡ true → reservedZero b ≡ true → take 8 b ≡ opening p q r s
-  opens b h signed zeros =
+  pub opens : (b : List ℕ) → EightBits b → 8 ≤ length b → signatureOf b ≡ s → reservedOf b ≡ 0 → take 8 b ≡ opening s
+  opens b w h signed zeros =
       take-add 4 4 b
-      ∙ ap (λ (l : List ℕ). l ++ take 4 (drop 4 b)) (stands-bytes b 0 (p ∷ q ∷ r ∷ s ∷ []) (omega arith) signed)
-      ∙ ap (λ (l : List ℕ). p ∷ q ∷ r ∷ s ∷ l) (stands-bytes b 4 (0 ∷ 0 ∷ 0 ∷ 0 ∷ []) h zeros)
+      ∙ ap (λ (l : List ℕ). l ++ take 4 (drop 4 b)) (sym (bytes-be32 b w 0 (omega arith)) ∙ ap bytes32 signed)
+      ∙ ap (λ (l : List ℕ). bytes32 s ++ l) (sym (bytes-be32 b w 4 h) ∙ ap bytes32 zeros)
 
-  pub opening-signed : (l : List ℕ) → signedBy p q r s (opening p q r s ++ l) ≡ true
-  opening-signed l = bytes-stand [] (p ∷ q ∷ r ∷ s ∷ []) (0 ∷ 0 ∷ 0 ∷ 0 ∷ l) 0 refl
+  pub opening-signed : (l : List ℕ) → signatureOf (opening s ++ l) ≡ s
+  opening-signed l = rw append-assoc (be32-bytes [] 0 s (bytes32 0 ++ l) refl)
 
-  pub opening-zeros : (l : List ℕ) → reservedZero (opening p q r s ++ l) ≡ true
-  opening-zeros l = bytes-stand (p ∷ q ∷ r ∷ s ∷ []) (0 ∷ 0 ∷ 0 ∷ 0 ∷ []) l 4 refl
+  pub opening-zeros : (l : List ℕ) → reservedOf (opening s ++ l) ≡ 0
+  opening-zeros l = rw append-assoc (be32-bytes (bytes32 s) 4 0 l (length-bytes32 s))

@@ -1,5 +1,5 @@
 -- Bytes stored one after the other: what a buffer then begins with, and runs of stores joined. Assumes nothing.
-use mathlib.Core.Path.{_≡_, _∙_, sym, ap}
+use mathlib.Core.Path.{_≡_, _∙_, refl, sym, ap}
 use mathlib.Core.List.{List, [], _∷_, _++_}
 use Prim.Native.Nat.{ℕ, suc, _+_, _/_, _%_, _≤_}
 use native.Mathlib.Nat.{add-zero}
@@ -7,6 +7,7 @@ use native.Mathlib.Omega.{arith}
 use lib.ListN.{length, take, drop, set, length-append}
 use lib.Seq.{sets, sets-eq, take-at, length-take-le}
 use Rattle.icc.specs.Bytes.{bytes16, bytes32}
+use Rattle.icc.specs.Opening.{opening}
 use Rattle.icc.proofs.Numbers.{length-bytes16, bytes32-halves}
 
 -- up to m, where the last of them stands
@@ -29,3 +30,12 @@ halves-stored l i x =
     ap (λ (k : ℕ). sets (sets l i (bytes16 (x / 65536))) (i + k) (bytes16 (x % 65536))) (sym (length-bytes16 (x / 65536)))
     ∙ sets-append l i (bytes16 (x / 65536)) (bytes16 (x % 65536))
     ∙ ap (sets l i) (sym (bytes32-halves x))
+
+-- and a signature and the reserved bytes as the opening
+pub opening-stored : (l : List ℕ) (s : ℕ) → sets (sets l 0 (bytes32 s)) 4 (bytes32 0) ≡ sets l 0 (opening s)
+unfolding bytes32
+opening-stored l s = refl
+
+pub take-opening : (l : List ℕ) (s : ℕ) → 8 ≤ length l → take 8 (sets l 0 (opening s)) ≡ opening s
+unfolding bytes32
+take-opening l s h = take-sets l 0 (opening s) 8 refl h

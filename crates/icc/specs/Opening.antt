@@ -1,24 +1,15 @@
 -- How a tag of ICC.1 begins: four bytes of signature, then four reserved bytes, which are zero. Assumes nothing.
-use Prim.Native.Nat.{ℕ, _+_}
-use mathlib.Core.Bool.{Bool, true}
-use mathlib.Core.List.{List, [], _∷_}
-use lib.ListN.{getD}
-use lib.Dec.{eqb}
-use Rattle.table.specs.Choice.{both}
+use Prim.Native.Nat.{ℕ}
+use mathlib.Core.List.{List, _++_}
+use Rattle.icc.specs.Bytes.{be32, bytes32}
 
--- the bytes from byte i on are those listed, each by each
-unfoldable pub stands : List ℕ → ℕ → List ℕ → Bool
-stands b i [] = true
-stands b i (x ∷ l) = both (eqb (getD b i 0) x) (stands b (i + 1) l)
+-- The number that bytes 0 to 3 make, the signature, and the one that bytes 4 to 7 make, which is 0 where all four are.
+abbrev pub signatureOf : List ℕ → ℕ
+signatureOf b = be32 b 0
 
--- bytes 0 to 3 are the signature p, q, r, s
-abbrev pub signedBy : ℕ → ℕ → ℕ → ℕ → List ℕ → Bool
-signedBy p q r s b = stands b 0 (p ∷ q ∷ r ∷ s ∷ [])
+abbrev pub reservedOf : List ℕ → ℕ
+reservedOf b = be32 b 4
 
--- bytes 4 to 7, the reserved ones, are zero
-abbrev pub reservedZero : List ℕ → Bool
-reservedZero b = stands b 4 (0 ∷ 0 ∷ 0 ∷ 0 ∷ [])
-
--- the first eight bytes of a tag with the signature p, q, r, s
-abbrev pub opening : ℕ → ℕ → ℕ → ℕ → List ℕ
-opening p q r s = p ∷ q ∷ r ∷ s ∷ 0 ∷ 0 ∷ 0 ∷ 0 ∷ []
+-- the first eight bytes of a tag with the signature s
+abbrev pub opening : ℕ → List ℕ
+opening s = bytes32 s ++ bytes32 0

@@ -1,11 +1,10 @@
 // Bytes of a tag read and written, for callers that have tested the tag's length: no door of the library.
 ghost use mathlib.Core.Path.{_≡_};
-ghost use mathlib.Core.List.{[], _∷_};
 ghost use Prim.Native.Nat.{_+_, _≤_};
 ghost use lib.ListN.{length};
 ghost use lib.Seq.{sets};
 ghost use Rattle.icc.specs.Bytes.{be16, be32, bytes16, bytes32};
-ghost use Rattle.icc.specs.Opening.{stands, signedBy, reservedZero, opening};
+ghost use Rattle.icc.specs.Opening.{opening};
 
 // A byte at the width of 16 bits, so that a product of it does not wrap.
 fn wide16(x: u8) -> u16
@@ -41,54 +40,6 @@ pub fn u32_at(tag: &[u8], i: usize) -> u32
     high * 65536 + low
 }
 
-// Whether the four bytes from byte i on are a, b, c, d.
-fn four_at(tag: &[u8], i: usize, a: u8, b: u8, c: u8, d: u8) -> bool
-    requires { ⌜ i + 4 ≤ length (now tag) ⌝ }
-    ensures { λ r. ⌜ r ≡ stands (now (tag .entry)) i (a ∷ b ∷ c ∷ d ∷ []) ⌝ }
-{
-    if tag[i] != a {
-        return false;
-    }
-    if tag[i + 1] != b {
-        return false;
-    }
-    if tag[i + 2] != c {
-        return false;
-    }
-    tag[i + 3] == d
-}
-
-// Whether the first four bytes are the signature a, b, c, d.
-pub fn has_signature(tag: &[u8], a: u8, b: u8, c: u8, d: u8) -> bool
-    requires { ⌜ 4 ≤ length (now tag) ⌝ }
-    ensures { λ r. ⌜ r ≡ signedBy a b c d (now (tag .entry)) ⌝ }
-{
-    four_at(tag, 0, a, b, c, d)
-}
-
-// Whether the four reserved bytes after the signature are zero.
-pub fn reserved(tag: &[u8]) -> bool
-    requires { ⌜ 8 ≤ length (now tag) ⌝ }
-    ensures { λ r. ⌜ r ≡ reservedZero (now (tag .entry)) ⌝ }
-{
-    four_at(tag, 4, 0, 0, 0, 0)
-}
-
-// Writes the signature a, b, c, d and the reserved bytes.
-pub fn put_opening(out: &mut [u8], a: u8, b: u8, c: u8, d: u8)
-    requires { ⌜ 8 ≤ length (now out) ⌝ }
-    ensures { λ _. ⌜ now (out .exit) ≡ sets (now (out .entry)) 0 (opening a b c d) ⌝ }
-{
-    out[0] = a;
-    out[1] = b;
-    out[2] = c;
-    out[3] = d;
-    out[4] = 0;
-    out[5] = 0;
-    out[6] = 0;
-    out[7] = 0;
-}
-
 // Writes a 16-bit number from byte i on.
 pub fn put_u16(out: &mut [u8], i: usize, x: u16)
     requires { ⌜ i + 2 ≤ length (now out) ⌝ }
@@ -105,4 +56,13 @@ pub fn put_u32(out: &mut [u8], i: usize, x: u32)
 {
     put_u16(out, i, (x / 65536) as u16);
     put_u16(out, i + 2, (x % 65536) as u16);
+}
+
+// Writes the signature and the reserved bytes.
+pub fn put_opening(out: &mut [u8], signature: u32)
+    requires { ⌜ 8 ≤ length (now out) ⌝ }
+    ensures { λ _. ⌜ now (out .exit) ≡ sets (now (out .entry)) 0 (opening signature) ⌝ }
+{
+    put_u32(out, 0, signature);
+    put_u32(out, 4, 0);
 }

@@ -1,38 +1,28 @@
 -- The tag's own checks: the verdict from the tests that led to it, and what a granted tag is. Assumes nothing.
-use mathlib.Core.Path.{_≡_, refl, sym}
-use mathlib.Core.Bool.{true, false}
+use mathlib.Core.Path.{_≡_, _∙_, refl}
 use mathlib.Core.List.{List}
 use Prim.Native.Nat.{ℕ, _≤_, _<_}
+use native.Mathlib.Omega.{arith}
 use borrow.Author.Tests.{leb-true, le-leb, lt-leb, eqb-true, eq-eqb, ne-eqb}
 use lib.ListN.{length, getD}
-use lib.Dec.{eqb}
-use Rattle.table.specs.Refusals.{granted, refused}
+use lib.Dec.{leb, eqb}
+use Rattle.table.specs.Refusals.{granted, refused, rung}
 use Rattle.table.specs.declared.Refusal.the-variants.{TagLength, WrongSignature, ReservedNotZero, FunctionType}
 use Rattle.table.proofs.Refusals.{rung-granted}
-use Rattle.icc.specs.Opening.{stands, reservedZero}
-use Rattle.icc.proofs.Opening.{both-true}
-use Rattle.para.specs.Tag.{isPara, typeOf, typeZeros, countOf, tagLength, total}
+use Rattle.icc.specs.Bytes.{be16}
+use Rattle.icc.specs.Opening.{signatureOf, reservedOf}
+use Rattle.para.specs.Tag.{signature, typeOf, reservedAfter, countOf, tagLength}
 use Rattle.para.specs.Promises.{tagVerdict}
 
--- The two bytes after the type, one by one.
+-- The two bytes after the type make 0 exactly if each of them is 0.
 module _ (b : List ℕ) where
-  pub tenth-differs : (getD b 10 0 ≡ 0 → ⊥) → false ≡ typeZeros b
-  unfolding stands
-  tenth-differs n = rw (ne-eqb _ _ n) refl
+  pub after-each : reservedAfter b ≡ 0 → (getD b 10 0 ≡ 0) × (getD b 11 0 ≡ 0)
+  unfolding be16
+  after-each e = (omega arith, omega arith)
 
-  pub eleventh-decides : getD b 10 0 ≡ 0 → eqb (getD b 11 0) 0 ≡ typeZeros b
-  unfolding stands
-  eleventh-decides e = rw (eq-eqb _ _ e) (sym (both-true (eqb (getD b 11 0) 0)))
-
--- Which totals a tag may have: the one that is written, and no other.
-module _ (n : ℕ) where
-  pub total-written : total n (tagLength n) ≡ true
-  unfolding total
-  total-written = eq-eqb (tagLength n) (tagLength n) refl
-
-  pub total-exact : (len : ℕ) → total n len ≡ true → len ≡ tagLength n
-  unfolding total
-  total-exact len e = eqb-true _ _ e
+  pub each-after : getD b 10 0 ≡ 0 → getD b 11 0 ≡ 0 → reservedAfter b ≡ 0
+  unfolding be16
+  each-after p q = omega arith
 
 -- The checks in their order, each past the ones before it.
 module _ (b : List ℕ) where
@@ -41,47 +31,49 @@ module _ (b : List ℕ) where
   short h = simp (lt-leb _ _ h)
 
   module _ (twelve : 12 ≤ length b) where
-    pub unsigned : isPara b ≡ false → tagVerdict b ≡ refused WrongSignature
+    pub unsigned : (signatureOf b ≡ signature → ⊥) → tagVerdict b ≡ refused WrongSignature
     unfolding tagVerdict
-    unsigned e = simp (le-leb _ _ twelve, e)
+    unsigned e = simp (le-leb _ _ twelve, ne-eqb _ _ e)
 
-    module _ (signed : isPara b ≡ true) where
-      pub unreserved : reservedZero b ≡ false → tagVerdict b ≡ refused ReservedNotZero
+    module _ (signed : signatureOf b ≡ signature) where
+      pub unreserved : (reservedOf b ≡ 0 → ⊥) → tagVerdict b ≡ refused ReservedNotZero
       unfolding tagVerdict
-      unreserved e = simp (le-leb _ _ twelve, signed, e)
+      unreserved e = simp (le-leb _ _ twelve, eq-eqb _ _ signed, ne-eqb _ _ e)
 
-      pub unreserved-after : reservedZero b ≡ true → typeZeros b ≡ false → tagVerdict b ≡ refused ReservedNotZero
+      pub unreserved-after : reservedOf b ≡ 0 → (reservedAfter b ≡ 0 → ⊥) → tagVerdict b ≡ refused ReservedNotZero
       unfolding tagVerdict
-      unreserved-after zeros e = simp (le-leb _ _ twelve, signed, zeros, e)
+      unreserved-after zeros e = simp (le-leb _ _ twelve, eq-eqb _ _ signed, eq-eqb _ _ zeros, ne-eqb _ _ e)
 
 -- a tag whose first twelve bytes are right, whatever its type
 pub record Opened (b : List ℕ) : Type 0 where
   pub twelve : 12 ≤ length b
-  pub signed : isPara b ≡ true
-  pub zeros : reservedZero b ≡ true
-  pub after : typeZeros b ≡ true
+  pub signed : signatureOf b ≡ signature
+  pub zeros : reservedOf b ≡ 0
+  pub after : reservedAfter b ≡ 0
 
--- t being the type as it was read
-module _ (b : List ℕ) (o : Opened b) (t : ℕ) (read : t ≡ typeOf b) where
-  pub untyped : 4 < t → tagVerdict b ≡ refused FunctionType
+module _ (b : List ℕ) (o : Opened b) where
+  -- what is left of the checks
+  left : tagVerdict b
+      ≡ rung (leb (typeOf b) 4) FunctionType (rung (eqb (length b) (tagLength (countOf (typeOf b)))) TagLength granted)
   unfolding tagVerdict
-  untyped h = rw (← read) (simp (le-leb _ _ (o .twelve), o .signed, o .zeros, o .after, lt-leb _ _ h))
+  left = simp (le-leb _ _ (o .twelve), eq-eqb _ _ (o .signed), eq-eqb _ _ (o .zeros), eq-eqb _ _ (o .after))
 
-  -- and n the count that it has
-  module _ (known : t ≤ 4) (n : ℕ) (count : n ≡ countOf t) where
-    pub unwhole : total n (length b) ≡ false → tagVerdict b ≡ refused TagLength
-    unfolding tagVerdict
-    unwhole e = rw (← read, ← count) (simp (le-leb _ _ (o .twelve), o .signed, o .zeros, o .after, le-leb _ _ known, e))
+  pub untyped : 4 < typeOf b → tagVerdict b ≡ refused FunctionType
+  untyped h = left ∙ simp (lt-leb _ _ h)
 
-    pub right : total n (length b) ≡ true → tagVerdict b ≡ granted
-    unfolding tagVerdict
-    right e = rw (← read, ← count) (simp (le-leb _ _ (o .twelve), o .signed, o .zeros, o .after, le-leb _ _ known, e))
+  -- n being the count that its type has
+  module _ (known : typeOf b ≤ 4) (n : ℕ) (count : n ≡ countOf (typeOf b)) where
+    pub unwhole : (length b ≡ tagLength n → ⊥) → tagVerdict b ≡ refused TagLength
+    unwhole e = left ∙ rw (← count) (simp (le-leb _ _ known, ne-eqb _ _ e))
+
+    pub right : length b ≡ tagLength n → tagVerdict b ≡ granted
+    right e = left ∙ rw (← count) (simp (le-leb _ _ known, eq-eqb _ _ e))
 
 -- what a tag is that passes them all
 pub record Readable (b : List ℕ) : Type 0 where
   pub opened : Opened b
   pub known : typeOf b ≤ 4
-  pub whole : total (countOf (typeOf b)) (length b) ≡ true
+  pub whole : length b ≡ tagLength (countOf (typeOf b))
 
 pub readable : (b : List ℕ) → tagVerdict b ≡ granted → Readable b
 unfolding tagVerdict
@@ -93,10 +85,15 @@ readable b e =
     let t = rung-granted _ _ _ (s .1) in
     let u = rung-granted _ _ _ (t .1) in
     record {
-      opened = record { twelve = leb-true _ _ (p .0); signed = q .0; zeros = r .0; after = s .0 };
+      opened = record {
+        twelve = leb-true _ _ (p .0);
+        signed = eqb-true _ _ (q .0);
+        zeros = eqb-true _ _ (r .0);
+        after = eqb-true _ _ (s .0);
+      };
       known = leb-true _ _ (t .0);
-      whole = u .0;
+      whole = eqb-true _ _ (u .0);
     }
 
 pub grants : (b : List ℕ) → Readable b → tagVerdict b ≡ granted
-grants b r = right b (r .opened) (typeOf b) refl (r .known) (countOf (typeOf b)) refl (r .whole)
+grants b r = right b (r .opened) (r .known) (countOf (typeOf b)) refl (r .whole)

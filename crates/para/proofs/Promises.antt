@@ -26,11 +26,10 @@ module _ (b : List ℕ) where
   pub read-refused : (why : Refusal) → tagVerdict b ≡ refused why → ReadPromise b (Read.Refused why)
   read-refused why e = record { number = simp e; count = simp e; numbers = simp e }
 
-  -- t being the type as it was read, and n the count that it has
-  pub read-granted : {t n : ℕ} {m : Numbers} → tagVerdict b ≡ granted → t ≡ typeOf b → n ≡ countOf t → m ≡ used n (rawAt b) → ReadPromise b (Read.Parameters n m)
+  pub read-granted : {n : ℕ} {m : Numbers} → tagVerdict b ≡ granted → n ≡ countOf (typeOf b) → m ≡ used n (rawAt b)
+      → ReadPromise b (Read.Parameters n m)
   unfolding numbersOf
-  read-granted e read c v =
-      let count = c ∙ ap countOf read in
+  read-granted e count v =
       record { number = simp e; count = simp e count; numbers = simp e (v ∙ ap (λ (n : ℕ). used n (rawAt b)) count) }
 
   -- what the answer r of a reading tells

@@ -1,29 +1,27 @@
 -- The para tag of ICC.1, byte by byte: 70 61 72 61 (hexadecimal), four zero bytes, a 16-bit function type t, two zero bytes, then 1, 3, 4, 5 or 7
 -- signed 16.16 numbers for t = 0 to 4. Assumes nothing.
 use Prim.Native.Nat.{ℕ, _+_, _*_, _<_}
-use mathlib.Core.Bool.{Bool}
 use mathlib.Core.List.{List, [], _∷_}
 use lib.ListN.{getD}
-use lib.Dec.{eqb, ltb}
+use lib.Dec.{ltb}
 use lib.IntN.{ℤ, pos}
 use lib.Signed.{mag}
 use Rattle.table.specs.Choice.{pick}
 use Rattle.icc.specs.Bytes.{be16, be32}
-use Rattle.icc.specs.Opening.{stands, signedBy}
 use Rattle.para.specs.declared.Numbers.{Numbers}
 use Rattle.para.specs.Signed.{signedOf}
 
--- the signature
-abbrev pub isPara : List ℕ → Bool
-isPara b = signedBy 0x70 0x61 0x72 0x61 b
+-- the signature, "para"
+abbrev pub signature : ℕ
+signature = 0x7061_7261
 
 -- the function type, at byte 8
 abbrev pub typeOf : List ℕ → ℕ
 typeOf b = be16 b 8
 
--- bytes 10 and 11, the reserved ones after it, are zero
-abbrev pub typeZeros : List ℕ → Bool
-typeZeros b = stands b 10 (0 ∷ 0 ∷ [])
+-- the number that bytes 10 and 11 make, the reserved ones after it, which is 0 where both are
+abbrev pub reservedAfter : List ℕ → ℕ
+reservedAfter b = be16 b 10
 
 -- how many numbers a function type has
 unfoldable pub countOf : ℕ → ℕ
@@ -32,10 +30,6 @@ countOf t = getD (1 ∷ 3 ∷ 4 ∷ 5 ∷ 7 ∷ []) t 0
 -- 12 plus four bytes for each of n numbers
 abbrev pub tagLength : ℕ → ℕ
 tagLength n = 12 + 4 * n
-
--- which totals a tag of n numbers may have: exactly that
-unfoldable pub total : ℕ → ℕ → Bool
-total n len = eqb len (tagLength n)
 
 -- Seven numbers, from the number at each place and as a list.
 abbrev pub seven : (ℕ → ℤ) → Numbers

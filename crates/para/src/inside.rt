@@ -1,7 +1,10 @@
-// What reading and writing share: no door of the library, since each asks something of its caller.
+// What reading and writing share: no door of the library.
 ghost use mathlib.Core.Path.{_≡_};
 ghost use Prim.Native.Nat.{_≤_};
 ghost use Rattle.para.specs.Tag.{countOf, tagLength};
+
+// The signature, "para": 70 61 72 61.
+pub const SIGNATURE: u32 = 0x7061_7261;
 
 // How many numbers a function type has.
 pub fn count_of(t: usize) -> usize

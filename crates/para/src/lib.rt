@@ -1,6 +1,4 @@
 // The para tag of ICC.1: its checks, and its numbers read.
-use icc::inside::has_signature;
-use icc::inside::reserved;
 use icc::inside::u16_at;
 use icc::inside::u32_at;
 use table::Refusal;
@@ -8,7 +6,7 @@ ghost use mathlib.Core.Path.{_≡_};
 ghost use Prim.Native.Nat.{_≤_};
 ghost use lib.ListN.{length};
 ghost use Rattle.para.specs.Signed.{signedOf};
-ghost use Rattle.para.specs.Tag.{typeZeros, tagLength, total, usedAt, used, rawAt};
+ghost use Rattle.para.specs.Tag.{tagLength, usedAt, used, rawAt};
 ghost use Rattle.para.specs.Promises.{ReadPromise};
 
 pub mod inside;
@@ -39,25 +37,6 @@ fn signed_of(x: u32) -> i32
         return x as i32;
     }
     !(!x as i32)
-}
-
-// Whether a tag of n numbers may be `len` bytes long.
-fn whole(n: usize, len: usize) -> bool
-    requires { ⌜ n ≤ 7 ⌝ }
-    ensures { λ r. ⌜ r ≡ total n len ⌝ }
-{
-    len == inside::tag_length(n)
-}
-
-// Whether the two reserved bytes after the function type are zero.
-fn type_zeros(tag: &[u8]) -> bool
-    requires { ⌜ 12 ≤ length (now tag) ⌝ }
-    ensures { λ r. ⌜ r ≡ typeZeros (now (tag .entry)) ⌝ }
-{
-    if tag[10] != 0 {
-        return false;
-    }
-    tag[11] == 0
 }
 
 // Number k of a tag that has n, or 0 where it has no such.
@@ -94,13 +73,13 @@ pub fn read_para(tag: &[u8]) -> Read
     if tag.len() < 12 {
         return Read::Refused(Refusal::TagLength);
     }
-    if !has_signature(tag, 0x70, 0x61, 0x72, 0x61) {
+    if u32_at(tag, 0) != inside::SIGNATURE {
         return Read::Refused(Refusal::WrongSignature);
     }
-    if !reserved(tag) {
+    if u32_at(tag, 4) != 0 {
         return Read::Refused(Refusal::ReservedNotZero);
     }
-    if !type_zeros(tag) {
+    if u16_at(tag, 10) != 0 {
         return Read::Refused(Refusal::ReservedNotZero);
     }
     let function_type = u16_at(tag, 8) as usize;
@@ -108,7 +87,7 @@ pub fn read_para(tag: &[u8]) -> Read
         return Read::Refused(Refusal::FunctionType);
     }
     let n = inside::count_of(function_type);
-    if !whole(n, tag.len()) {
+    if tag.len() != inside::tag_length(n) {
         return Read::Refused(Refusal::TagLength);
     }
     Read::Parameters(n, numbers_of(tag, n))

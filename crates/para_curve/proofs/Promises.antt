@@ -5,13 +5,13 @@ use mathlib.Core.List.{List, map}
 use Prim.Native.Nat.{ℕ, _≤_}
 use native.Mathlib.Omega.{arith}
 use lib.ListN.{length, take}
-use lib.Dec.{leb}
+use lib.Dec.{leb, eqb}
 use Rattle.table.specs.Fill.{tabulated}
 use Rattle.table.specs.Refusals.{granted, refused, rung, numberIn}
 use Rattle.table.specs.declared.Refusal.{Refusal}
 use Rattle.table.specs.declared.Refusal.the-variants.{TagLength, WrongSignature, ReservedNotZero, FunctionType}
 use Rattle.table.proofs.Fill.{length-tabulated}
-use Rattle.icc.specs.Opening.{reservedZero}
+use Rattle.icc.specs.Opening.{signatureOf, reservedOf}
 use Rattle.parametric.specs.declared.Unified.{Unified}
 use Rattle.parametric.specs.Unify.{counted, unified}
 use Rattle.parametric.specs.Promises.{numberOfUnified, valueOfUnified, NewPromise}
@@ -19,7 +19,7 @@ use Rattle.parametric.proofs.Unify.{same-unified}
 use Rattle.para.specs.declared.Numbers.{Numbers}
 use Rattle.para.specs.declared.Read.{Read}
 use Rattle.para.specs.Answers.{numberOfRead}
-use Rattle.para.specs.Tag.{isPara, typeOf, typeZeros, countOf, total, listed, rawAt, numbersOf}
+use Rattle.para.specs.Tag.{signature, typeOf, reservedAfter, countOf, tagLength, listed, rawAt, numbersOf}
 use Rattle.para.specs.Promises.{tagVerdict, ReadPromise}
 use Rattle.para.proofs.Counts.{five, count-most}
 use Rattle.para.proofs.Places.{first-used}
@@ -74,7 +74,9 @@ no-seven true true true true true true e = omega arith
 pub never-miscounted : {b : List ℕ} {r : Unified} → CurvePromise b r → numberOfUnified r ≡ 7 → ⊥
 unfolding tagVerdict
 never-miscounted {b} p e =
-    no-seven (leb 12 (length b)) (isPara b) (reservedZero b) (typeZeros b) (leb (typeOf b) 4) (total (countOf (typeOf b)) (length b)) (sym (p .number) ∙ e)
+    no-seven (leb 12 (length b)) (eqb (signatureOf b) signature) (eqb (reservedOf b) 0) (eqb (reservedAfter b) 0)
+    (leb (typeOf b) 4) (eqb (length b) (tagLength (countOf (typeOf b))))
+    (sym (p .number) ∙ e)
 
 -- The promise names one answer.
 pub curve-one : {b : List ℕ} {r s : Unified} → CurvePromise b r → CurvePromise b s → r ≡ s

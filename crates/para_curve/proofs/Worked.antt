@@ -5,12 +5,11 @@ use lib.Ieee.{binary32, ofBits, round, neg, div}
 use Rattle.table.specs.Fill.{tabulated}
 use Rattle.table.specs.declared.Refusal.the-variants.{TagLength}
 use Rattle.icc.specs.Bytes.{be16, be32}
-use Rattle.icc.specs.Opening.{stands}
 use Rattle.rounding.specs.Nearest.{ratio}
 use Rattle.parametric.specs.declared.Unified.{Unified}
 use Rattle.parametric.specs.Unify.{unified}
 use Rattle.para.specs.Signed.{signedOf}
-use Rattle.para.specs.Tag.{countOf, total, rawAt}
+use Rattle.para.specs.Tag.{countOf, rawAt}
 use Rattle.para.specs.Promises.{tagVerdict}
 use Rattle.para.proofs.Worked.{begun, three}
 use Rattle.para_curve.specs.Promises.{CurvePromise}
@@ -25,7 +24,7 @@ three-curve : CurvePromise three (Unified.Curve (record {
   e = ofBits binary32 0;
   f = ofBits binary32 0;
 }))
-unfolding tagVerdict stands total be16 be32 countOf rawAt signedOf tabulated unified ratio ofBits round neg div
+unfolding tagVerdict be16 be32 countOf rawAt signedOf tabulated unified ratio ofBits round neg div
 three-curve = record { number = refl; value = refl }
 
 tied-curve : CurvePromise (begun 0 (1 ∷ 0 ∷ 0 ∷ 1 ∷ [])) (Unified.Curve (record {
@@ -37,7 +36,7 @@ tied-curve : CurvePromise (begun 0 (1 ∷ 0 ∷ 0 ∷ 1 ∷ [])) (Unified.Curve 
   e = ofBits binary32 0;
   f = ofBits binary32 0;
 }))
-unfolding tagVerdict stands total be16 be32 countOf rawAt signedOf tabulated unified ratio ofBits round
+unfolding tagVerdict be16 be32 countOf rawAt signedOf tabulated unified ratio ofBits round
 tied-curve = record { number = refl; value = refl }
 
 refused-curve : CurvePromise [] (Unified.Refused TagLength)

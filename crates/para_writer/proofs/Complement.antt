@@ -20,13 +20,15 @@ unfolding patternOf
 pattern-machine (pos n) = refl
 pattern-machine (negsuc n) = refl
 
--- a number that 32 bits hold is the one that its pattern stands for
+-- a number that 32 bits hold has a pattern of 32 bits, and is the one that it stands for
+pub pattern-below : (z : ℤ) → mag z < 0x8000_0000 → patternOf z < 0x1_0000_0000
+pattern-below z h = rw (pattern-machine z) (ofZ-fits w32 z (record { sfits = h }) .fits)
+
 pub signed-pattern : (z : ℤ) → mag z < 0x8000_0000 → signedOf (patternOf z) ≡ z
 signed-pattern z h =
-    let fits : SFits w32 z = record { sfits = h } in
-    signed-machine (patternOf z) (rw (pattern-machine z) (ofZ-fits w32 z fits .fits))
+    signed-machine (patternOf z) (pattern-below z h)
     ∙ ap (toZ w32) (pattern-machine z)
-    ∙ toZ-ofZ w32 z fits
+    ∙ toZ-ofZ w32 z (record { sfits = h })
 
 -- and 32 bits are the pattern of the number that they stand for
 pub pattern-signed : (x : ℕ) → x < 0x1_0000_0000 → patternOf (signedOf x) ≡ x

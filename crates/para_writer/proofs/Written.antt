@@ -1,45 +1,47 @@
 -- The bytes that are written for a type and seven numbers: the stores that make them, and what the tests and the readings say of them. Assumes nothing.
 use mathlib.Core.Path.{_≡_, _∙_, refl, ap}
-use mathlib.Core.Bool.{true}
-use mathlib.Core.List.{List, [], _∷_, _++_}
+use mathlib.Core.Logic.{⊎-elim}
+use mathlib.Core.List.{List, _++_}
 use Prim.Native.Nat.{ℕ, _≤_, _<_}
 use native.Mathlib.Omega.{arith}
-use lib.ListN.{length, take, length-append, List·getD-map}
+use lib.ListN.{length, getD, take, length-append, List·getD-map, List·getD-eq-default}
 use lib.Seq.{sets, length-sets, length-take-le, getD-take}
 use lib.IntN.{pos}
-use Rattle.icc.specs.Bytes.{bytes16, bytes32}
+use lib.Dec.{lit<}
+use Rattle.table.proofs.Choice.{below?}
+use Rattle.icc.specs.Bytes.{EightBits, bytes16, bytes32}
 use Rattle.icc.specs.Words.{inTurn}
-use Rattle.icc.specs.Opening.{reservedZero, opening}
+use Rattle.icc.specs.Opening.{signatureOf, reservedOf, opening}
 use Rattle.icc.proofs.Numbers.{be16-bytes}
-use Rattle.icc.proofs.Opening.{opening-signed, opening-zeros, bytes-stand}
-use Rattle.icc.proofs.Stores.{take-sets}
+use Rattle.icc.proofs.Opening.{opening-signed, opening-zeros}
+use Rattle.icc.proofs.Stores.{take-sets, take-opening}
 use Rattle.icc.proofs.Words.{four-bytes, length-words, word-back}
+use Rattle.icc.proofs.Widths.{eight-append, eight-bytes16, eight-bytes32, eight-words, eight-opening}
 use Rattle.para.specs.declared.Numbers.{Numbers}
 use Rattle.para.specs.Signed.{signedOf}
-use Rattle.para.specs.Tag.{isPara, typeOf, typeZeros, countOf, tagLength, listed, placed, SignedBits, used, rawAt}
+use Rattle.para.specs.Tag.{signature, typeOf, reservedAfter, countOf, tagLength, listed, placed, SignedBits, used, rawAt}
 use Rattle.para.proofs.Counts.{count-most}
 use Rattle.para.proofs.Places.{used-same}
-use Rattle.para.proofs.Checks.{Readable, total-written}
+use Rattle.para.proofs.Checks.{Readable}
 use Rattle.para_writer.specs.Written.{patternOf, head, patterns, tagOf}
-use Rattle.para_writer.proofs.Complement.{signed-pattern}
+use Rattle.para_writer.proofs.Complement.{signed-pattern, pattern-below}
 
 pub length-head : (t : ℕ) → length (head t) ≡ 12
-unfolding head bytes16
+unfolding head bytes16 bytes32
 length-head t = refl
 
 -- the first twelve bytes, by three runs of stores
 pub head-stored : (l : List ℕ) (t : ℕ) → 12 ≤ length l
-    → take 12 (sets (sets (sets l 0 (opening 0x70 0x61 0x72 0x61)) 8 (bytes16 t)) 10 (bytes16 0)) ≡ head t
-unfolding head bytes16
+    → take 12 (sets (sets (sets l 0 (opening signature)) 8 (bytes16 t)) 10 (bytes16 0)) ≡ head t
+unfolding head bytes16 bytes32
 head-stored l t h =
-    let signature = opening 0x70 0x61 0x72 0x61 in
-    let once = sets l 0 signature in
+    let once = sets l 0 (opening signature) in
     let twice = sets once 8 (bytes16 t) in
-    let first : length once ≡ length l = length-sets l 0 signature in
+    let first : length once ≡ length l = length-sets l 0 (opening signature) in
     let second : length twice ≡ length once = length-sets once 8 (bytes16 t) in
     take-sets twice 10 (bytes16 0) 12 refl (omega arith)
     ∙ ap (λ (k : List ℕ). k ++ bytes16 0) (take-sets once 8 (bytes16 t) 10 refl (omega arith))
-    ∙ ap (λ (k : List ℕ). (k ++ bytes16 t) ++ bytes16 0) (take-sets l 0 signature 8 refl (omega arith))
+    ∙ ap (λ (k : List ℕ). (k ++ bytes16 t) ++ bytes16 0) (take-opening l signature (omega arith))
 
 -- What is written passes the tests, and holds the type and its numbers.
 module _ (t : ℕ) (m : Numbers) (known : t ≤ 4) where
@@ -53,27 +55,27 @@ module _ (t : ℕ) (m : Numbers) (known : t ≤ 4) where
   length-tag =
       omega (arith, length-append (head t) (inTurn bytes32 counted-out), length-head t, length-words four-bytes counted-out, length-counted-out)
 
-  tag-signed : isPara (tagOf t m) ≡ true
-  unfolding head
-  tag-signed = opening-signed 0x70 0x61 0x72 0x61 ((bytes16 t ++ (0 ∷ 0 ∷ [])) ++ inTurn bytes32 counted-out)
+  tag-signed : signatureOf (tagOf t m) ≡ signature
+  unfolding head bytes16 bytes32
+  tag-signed = opening-signed signature (bytes16 t ++ (bytes16 0 ++ inTurn bytes32 counted-out))
 
-  tag-zeros : reservedZero (tagOf t m) ≡ true
-  unfolding head
-  tag-zeros = opening-zeros 0x70 0x61 0x72 0x61 ((bytes16 t ++ (0 ∷ 0 ∷ [])) ++ inTurn bytes32 counted-out)
+  tag-zeros : reservedOf (tagOf t m) ≡ 0
+  unfolding head bytes16 bytes32
+  tag-zeros = opening-zeros signature (bytes16 t ++ (bytes16 0 ++ inTurn bytes32 counted-out))
 
-  tag-after : typeZeros (tagOf t m) ≡ true
-  unfolding head bytes16
-  tag-after = bytes-stand (opening 0x70 0x61 0x72 0x61 ++ bytes16 t) (0 ∷ 0 ∷ []) (inTurn bytes32 counted-out) 10 refl
+  tag-after : reservedAfter (tagOf t m) ≡ 0
+  unfolding head bytes16 bytes32
+  tag-after = be16-bytes (opening signature ++ bytes16 t) 10 0 (inTurn bytes32 counted-out) refl
 
   pub tag-type : typeOf (tagOf t m) ≡ t
-  unfolding head bytes16
-  tag-type = be16-bytes (opening 0x70 0x61 0x72 0x61) 8 t (0 ∷ 0 ∷ inTurn bytes32 counted-out) refl
+  unfolding head bytes16 bytes32
+  tag-type = be16-bytes (opening signature) 8 t (bytes16 0 ++ inTurn bytes32 counted-out) refl
 
   pub tag-readable : Readable (tagOf t m)
   tag-readable = record {
     opened = record { twelve = omega (arith, length-tag); signed = tag-signed; zeros = tag-zeros; after = tag-after };
     known = omega (arith, tag-type);
-    whole = rw (tag-type, length-tag) (total-written (countOf t));
+    whole = rw (tag-type, length-tag) refl;
   }
 
   module _ (wide : SignedBits m) where
@@ -88,3 +90,24 @@ module _ (t : ℕ) (m : Numbers) (known : t ≤ 4) where
 
     pub tag-numbers : used (countOf t) (rawAt (tagOf t m)) ≡ used (countOf t) (placed m)
     tag-numbers = used-same (countOf t) (rawAt (tagOf t m)) (placed m) tag-raw
+
+    -- and its bytes are eight bits wide
+    pattern-fits : (k : ℕ) → getD (patterns m) k 0 < 0x1_0000_0000
+    unfolding patternOf
+    pattern-fits k = rw (List·getD-map patternOf (listed m) k (pos 0)) (pattern-below (placed m k) (wide k))
+
+    counted-out-fits : (k : ℕ) → getD counted-out k 0 < 0x1_0000_0000
+    counted-out-fits k =
+        ⊎-elim
+        (λ (h : k < countOf t). rw (getD-take (countOf t) (patterns m) k 0 h) (pattern-fits k))
+        (λ (h : countOf t ≤ k).
+        rw (List·getD-eq-default counted-out 0 {n = k} (omega (arith, length-counted-out))) (lit< tt))
+        (below? k (countOf t))
+
+    pub tag-eight : EightBits (tagOf t m)
+    unfolding head
+    tag-eight =
+        eight-append (head t) (inTurn bytes32 counted-out)
+        (eight-append (opening signature) (bytes16 t ++ bytes16 0) (eight-opening signature (lit< tt))
+        (eight-append (bytes16 t) (bytes16 0) (eight-bytes16 t (omega arith)) (eight-bytes16 0 (lit< tt))))
+        (eight-words bytes32 0x1_0000_0000 eight-bytes32 counted-out counted-out-fits)

@@ -1,13 +1,13 @@
 -- What is written for a function type and seven numbers: the para tag of those that the type has, byte by byte. Assumes nothing.
 use Prim.Native.Nat.{ℕ, suc, _-_}
-use mathlib.Core.List.{List, [], _∷_, _++_, map}
+use mathlib.Core.List.{List, _++_, map}
 use lib.ListN.{take}
 use lib.IntN.{ℤ, pos, negsuc}
 use Rattle.icc.specs.Bytes.{bytes16, bytes32}
 use Rattle.icc.specs.Words.{inTurn}
 use Rattle.icc.specs.Opening.{opening}
 use Rattle.para.specs.declared.Numbers.{Numbers}
-use Rattle.para.specs.Tag.{countOf, listed}
+use Rattle.para.specs.Tag.{signature, countOf, listed}
 
 -- The 32 bits of a number in two's complement: below 0 it is more by 2^32 (`negsuc n` is -(n + 1)).
 unfoldable pub patternOf : ℤ → ℕ
@@ -16,7 +16,7 @@ patternOf (negsuc n) = 0x1_0000_0000 - suc n
 
 -- The first twelve bytes, and four for each number that the type has. The others are ignored.
 unfoldable pub head : ℕ → List ℕ
-head t = opening 0x70 0x61 0x72 0x61 ++ (bytes16 t ++ (0 ∷ 0 ∷ []))
+head t = opening signature ++ (bytes16 t ++ bytes16 0)
 
 abbrev pub patterns : Numbers → List ℕ
 patterns m = map patternOf (listed m)

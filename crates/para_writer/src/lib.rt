@@ -3,6 +3,7 @@ use icc::inside::put_opening;
 use icc::inside::put_u16;
 use icc::inside::put_u32;
 use para::Numbers;
+use para::inside::SIGNATURE;
 use para::inside::count_of;
 use para::inside::tag_length;
 use table::Done;
@@ -32,7 +33,7 @@ fn put_head(out: &mut [u8], t: u16)
     requires { ⌜ 12 ≤ length (now out) ⌝ }
     ensures { λ _. ⌜ take 12 (now (out .exit)) ≡ head t ⌝ }
 {
-    put_opening(out, 0x70, 0x61, 0x72, 0x61);
+    put_opening(out, SIGNATURE);
     put_u16(out, 8, t);
     put_u16(out, 10, 0);
 }

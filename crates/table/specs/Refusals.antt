@@ -31,6 +31,11 @@ abbrev pub rung : Bool → Refusal → Verdict → Verdict
 rung true why rest = rest
 rung false why rest = refused why
 
+-- a whole ladder before another: the second one's tests come after the first one's
+abbrev pub andThen : Verdict → Verdict → Verdict
+andThen granted rest = rest
+andThen (refused why) rest = refused why
+
 -- the number that an answer carries: 0 where the call is granted
 abbrev pub numberIn : Verdict → ℕ
 numberIn granted = 0

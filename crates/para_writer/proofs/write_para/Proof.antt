@@ -6,7 +6,7 @@ use Rattle.para_writer.proofs.write_para.Statement.{statement}
 use Rattle.para_writer.proofs.write_para.Tie as tie
 
 returns : tie.Need-returns
-returns c = write-untyped _ _ _ (c .if1 .taken)
+returns c = write-untyped _ _ _ (omega arith)
 
 count-of-requires : tie.Need-count-of-requires
 count-of-requires c κs = search needs

@@ -1,52 +1,23 @@
--- `put_opening` meets its contract: eight stores in a row are the definition's. Assumes nothing.
-use mathlib.Core.Path.{refl}
-use native.Mathlib.Omega.{arith}
-use lib.ListN.{length-set}
+-- `put_opening` meets its contract: two numbers stored are the opening. Assumes nothing.
+use Rattle.icc.proofs.Stores.{opening-stored}
 use borrow.Author.Needs.{needs}
 use Rattle.icc.proofs.inside.put_opening.Statement.{statement}
 use Rattle.icc.proofs.inside.put_opening.Tie as tie
 
-slice-write-out : tie.Need-slice-write-out
-slice-write-out c = search needs
+put-u32-requires : tie.Need-put-u32-requires
+put-u32-requires c κs = search needs
 
-slice-write-out-2 : tie.Need-slice-write-out-2
-slice-write-out-2 c = simp length-set (omega arith)
-
-slice-write-out-3 : tie.Need-slice-write-out-3
-slice-write-out-3 c = simp length-set (omega arith)
-
-slice-write-out-4 : tie.Need-slice-write-out-4
-slice-write-out-4 c = simp length-set (omega arith)
-
-slice-write-out-5 : tie.Need-slice-write-out-5
-slice-write-out-5 c = simp length-set (omega arith)
-
-slice-write-out-6 : tie.Need-slice-write-out-6
-slice-write-out-6 c = simp length-set (omega arith)
-
-slice-write-out-7 : tie.Need-slice-write-out-7
-slice-write-out-7 c = simp length-set (omega arith)
-
-slice-write-out-8 : tie.Need-slice-write-out-8
-slice-write-out-8 c = search needs
+put-u32-requires-2 : tie.Need-put-u32-requires-2
+put-u32-requires-2 c κs = search needs
 
 same-length : tie.Need-same-length
 same-length c = search needs
 
 returns : tie.Need-returns
-returns c = refl
+returns c =
+    let second = c .before .before in
+    let first = second .before .before .before .before in
+    rw (second .put-u322 .ensures, first .put-u32 .ensures) (opening-stored _ _)
 
 pub put-opening-spec : {M : Type 1} → statement M
-put-opening-spec =
-    tie.close
-    (tie.spec
-    slice-write-out
-    slice-write-out-2
-    slice-write-out-3
-    slice-write-out-4
-    slice-write-out-5
-    slice-write-out-6
-    slice-write-out-7
-    slice-write-out-8
-    same-length
-    returns)
+put-opening-spec = tie.close (tie.spec put-u32-requires put-u32-requires-2 same-length returns)

@@ -1,9 +1,14 @@
 -- `u32_at` meets its contract: two halves make the number. Assumes nothing.
 use native.Mathlib.Omega.{arith}
+use Rattle.icc.specs.Bytes.{EightBits}
 use Rattle.icc.proofs.Numbers.{be32-halves}
 use borrow.Author.Needs.{needs}
 use Rattle.icc.proofs.inside.u32_at.Statement.{statement}
 use Rattle.icc.proofs.inside.u32_at.Tie as tie
+
+-- The bytes of any tag that a call is lent are eight bits wide, by their type: what the laws on bytes ask for.
+lent-eight : (c : tie.After-shared-slice-known) → EightBits (c .before .args .tag .now)
+lent-eight c i = omega (arith, c .shared-slice-known .given i)
 
 u16-at-requires : tie.Need-u16-at-requires
 u16-at-requires c κs = search needs
