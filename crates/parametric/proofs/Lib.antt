@@ -1,3 +1,5 @@
 -- `Unify`: the curve of each count. `Compare`: two lists walked at once. Each with the law that its promise names one answer.
+-- `Counts`: the sentences of document 01 on the unified curve.
 pub mod Unify
 pub mod Compare
+pub mod Counts
