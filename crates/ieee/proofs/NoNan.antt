@@ -1,15 +1,17 @@
 -- Where a NaN cannot arise: of a rounded fraction, and of numbers that are not too large; and when a quotient is one.
 -- Assumes nothing.
 use mathlib.Core.Path.{_≡_, refl, sym, ap, ap₂, _∙_, subst}
-use Prim.Native.Nat.{ℕ, zero, suc, _+_, _-_, _*_, _^_, _≤_, _<_}
+use Prim.Native.Nat.{ℕ, zero, suc, _+_, _-_, _*_, _%_, _^_, _≤_, _<_}
 use native.Mathlib.Nat.{le-trans, le-of-eq, lt-irrefl, zero-lt-suc, zero-mul, add-le-add, add-mul, mul-one, mul-comm, mul-assoc, mul-right-comm, mul-mul-mul-comm, mul-le-mul, mul-le-mul-right, mul-pos, le-of-mul-le-mul-right}
 use native.Mathlib.Omega.{arith}
 use mathlib.Core.Bool.{Bool, true, false, not, _&&_, _||_, Bool·beq, cond, true≢false}
 use lib.IntN.{ℤ, pos}
 use lib.Dec.{T, eqb, ltb, eqb→eq}
 use lib.Pow.{pow-pos}
-use borrow.Author.Tests.{ne-eqb}
-use lib.Ieee.{Float, nan, inf, fin, Format, prec, low, up, down, unlike, odd, units, round, neg, add, sub, sum, mul, div, eq, isNan}
+use borrow.Author.Tests.{ne-eqb, lt-ltb}
+use lib.Ieee.{Float, nan, inf, fin, Format, binary32, binary64, prec, low, hid, ones, top, up, down, unlike, odd, units}
+use lib.Ieee.{round, neg, add, sub, sum, mul, div, eq, isNan, ofBits}
+use lib.Ieee.Bits.{nanBits-is, nanBits-above}
 use lib.Ieee.Fits.{up-pos, down-pos, and-l, round-is}
 use lib.Ieee.Back.{round-whole}
 use lib.Ieee.Exact.{HasValue}
@@ -25,11 +27,26 @@ pub no-nan : (x : Float) → isNan x ≡ false → x ≡ nan → ⊥
 unfolding isNan
 no-nan x h e = true≢false (sym (ap isNan e) ∙ h)
 
+pub is-nan : (x : Float) → isNan x ≡ true → x ≡ nan
+unfolding isNan
+is-nan nan h = refl
+is-nan (inf s) h = absurd (true≢false (sym h))
+is-nan (fin s m e) h = absurd (true≢false (sym h))
+
 pub finite-no-nan : (x : Float) → T (finite x) → isNan x ≡ false
 unfolding isNan
 finite-no-nan nan F = absurd F
 finite-no-nan (inf s) F = absurd F
 finite-no-nan (fin s m e) F = refl
+
+-- ---- a NaN as a program writes it, 0.0 / 0.0, and as a pattern: above the infinity's, whatever its sign
+pub bits-nan : (f : Format) → div f (ofBits f 0) (ofBits f 0) ≡ nan
+unfolding div ofBits
+bits-nan binary32 = refl
+bits-nan binary64 = refl
+
+pub nan-pattern : (f : Format) (b : ℕ) → ones f * hid f < b % top f → ofBits f b ≡ nan
+nan-pattern f b h = is-nan (ofBits f b) (sym (nanBits-is f b) ∙ nanBits-above f b ∙ lt-ltb (ones f * hid f) (b % top f) h)
 
 -- ---- a rounded fraction is a number or an infinity
 odd-no-nan : (d : ℕ) (s : Bool) (q k l : ℕ) → isNan (odd d s q k l) ≡ false

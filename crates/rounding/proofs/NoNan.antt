@@ -8,7 +8,7 @@ use lib.Signed.{mag}
 use lib.Dec.{T, lit<, lit≤}
 use lib.Ieee.{Float, nan, inf, fin, binary32, up, down, isNan, lt}
 use lib.Ieee.Scale.{finite}
-use Rattle.ieee.proofs.NoNan.{no-nan, round-no-nan, round-bounded}
+use Rattle.ieee.proofs.NoNan.{no-nan, is-nan, round-no-nan, round-bounded}
 use Rattle.rounding.specs.Nearest.{narrow, ratio, NarrowPromise, U8Fixed8Promise, S15Fixed16Promise}
 use Rattle.rounding.specs.Size.{minimum, abs, MinPromise, AbsPromise}
 
@@ -19,18 +19,12 @@ narrow-keeps nan = refl
 narrow-keeps (inf s) = refl
 narrow-keeps (fin s m e) = round-no-nan binary32 s (m * up e) (down e)
 
-is-nan : (x : Float) → isNan x ≡ true → x ≡ nan
-unfolding isNan
-is-nan nan h = refl
-is-nan (inf s) h = absurd (true≢false (sym h))
-is-nan (fin s m e) h = absurd (true≢false (sym h))
-
 nan-is : isNan nan ≡ true
 unfolding isNan
 nan-is = refl
 
-pub narrow-nan : {x r : Float} → NarrowPromise x r → r ≡ nan → x ≡ nan
-narrow-nan {x} p e = is-nan x (sym (narrow-keeps x) ∙ ap isNan (sym (p .value) ∙ e) ∙ nan-is)
+pub narrow-nan-of : {x r : Float} → NarrowPromise x r → r ≡ nan → x ≡ nan
+narrow-nan-of {x} p e = is-nan x (sym (narrow-keeps x) ∙ ap isNan (sym (p .value) ∙ e) ∙ nan-is)
 
 abs-keeps : (x : Float) → isNan (abs x) ≡ isNan x
 unfolding abs isNan
@@ -38,8 +32,8 @@ abs-keeps nan = refl
 abs-keeps (inf s) = refl
 abs-keeps (fin s m e) = refl
 
-pub abs-nan : {x r : Float} → AbsPromise x r → r ≡ nan → x ≡ nan
-abs-nan {x} p e = is-nan x (sym (abs-keeps x) ∙ ap isNan (sym (p .value) ∙ e) ∙ nan-is)
+pub abs-nan-of : {x r : Float} → AbsPromise x r → r ≡ nan → x ≡ nan
+abs-nan-of {x} p e = is-nan x (sym (abs-keeps x) ∙ ap isNan (sym (p .value) ∙ e) ∙ nan-is)
 
 -- ---- the lesser of two: both are
 minimum-nan : (x bound : Float) → minimum x bound ≡ nan → (x ≡ nan) × (bound ≡ nan)
@@ -57,8 +51,8 @@ minimum-nan (fin s m d) bound e = go (lt bound (fin s m d)) refl e
     go true h e = absurd (true≢false (sym h ∙ ap (λ (y : Float). lt y (fin s m d)) e))
     go false h e = absurd (no-nan (fin s m d) refl e)
 
-pub min-nan-both : {x bound r : Float} → MinPromise x bound r → r ≡ nan → (x ≡ nan) × (bound ≡ nan)
-min-nan-both {x} {bound} p e = minimum-nan x bound (sym (p .value) ∙ e)
+pub min-nan-of : {x bound r : Float} → MinPromise x bound r → r ≡ nan → (x ≡ nan) × (bound ≡ nan)
+min-nan-of {x} {bound} p e = minimum-nan x bound (sym (p .value) ∙ e)
 
 -- ---- a fixed-point number
 pub ratio-no-nan : (z : ℤ) (d : ℕ) → isNan (ratio z d) ≡ false
