@@ -2,7 +2,7 @@
 -- Assumes nothing.
 use mathlib.Core.Path.{_≡_, refl, sym, ap, ap₂, _∙_, subst}
 use Prim.Native.Nat.{ℕ, zero, suc, _+_, _-_, _*_, _%_, _^_, _≤_, _<_}
-use native.Mathlib.Nat.{le-trans, le-of-eq, lt-irrefl, zero-lt-suc, zero-mul, add-le-add, add-mul, mul-one, mul-comm, mul-assoc, mul-right-comm, mul-mul-mul-comm, mul-le-mul, mul-le-mul-right, mul-pos, le-of-mul-le-mul-right}
+use native.Mathlib.Nat.{le-refl, le-trans, le-of-eq, lt-irrefl, zero-lt-suc, zero-mul, add-le-add, add-mul, mul-one, mul-comm, mul-assoc, mul-right-comm, mul-mul-mul-comm, mul-le-mul, mul-le-mul-right, mul-pos, le-of-mul-le-mul-right}
 use native.Mathlib.Omega.{arith}
 use mathlib.Core.Bool.{Bool, true, false, not, _&&_, _||_, Bool·beq, cond, true≢false}
 use lib.IntN.{ℤ, pos}
@@ -65,6 +65,30 @@ units-no-nan f s q k = go (ltb (q * 2 ^ k) (overflow f))
 pub round-no-nan : (f : Format) (s : Bool) (a c : ℕ) → isNan (round f s a c) ≡ false
 round-no-nan f s a c =
     ap isNan (round-is f s a c) ∙ units-no-nan f s (kept (prec f) (a * 2 ^ low f) c) (drop (prec f) (a * 2 ^ low f) c)
+
+-- ---- a finite number and what is no NaN
+pub plus-no-nan : (f : Format) (x y : Float) → T (finite x) → isNan y ≡ false → isNan (add f x y) ≡ false
+unfolding add sum isNan
+plus-no-nan f nan y F h = absurd F
+plus-no-nan f (inf s) y F h = absurd F
+plus-no-nan f (fin s m e) nan F h = h
+plus-no-nan f (fin s m e) (inf t) F h = refl
+plus-no-nan f (fin s m e) (fin t n d) F h = go (Bool·beq s t) (ltb a b)
+  where
+    a : ℕ
+    a = m * up e * down d
+
+    b : ℕ
+    b = n * up d * down e
+
+    c : ℕ
+    c = down e * down d
+
+    go : (u v : Bool)
+        → isNan (cond u (round f s (a + b) c) (cond v (round f t (b - a) c) (round f (s && ltb b a) (a - b) c))) ≡ false
+    go true v = round-no-nan f s (a + b) c
+    go false true = round-no-nan f t (b - a) c
+    go false false = round-no-nan f (s && ltb b a) (a - b) c
 
 -- ---- times a number that is finite and not 0
 not-zero : (m : ℕ) → suc m ≡ 0 → ⊥
@@ -130,8 +154,45 @@ neg-unquotable (fin s m e) y (both-zero p q) = both-zero (neg-zero s m e p) q
 pub neg-div-nan : (f : Format) (x y : Float) → div f (neg x) y ≡ nan → Unquotable x y
 neg-div-nan f x y h = neg-unquotable x y (div-nan f (neg x) y h)
 
--- ---- numbers of either sign whose size is at most a whole number: none is a NaN or an infinity, and sums and products
--- are such numbers again
+-- ---- numbers of either sign whose size is at most p / q. Where a format holds p / q, rounding does not pass it
+abbrev pub Within : ℕ → ℕ → Float → Type 0
+Within p q x = T (finite x) × (num x * q ≤ p * den x)
+
+value-within : (x : Float) (s : Bool) (g c p q : ℕ) → 0 < c → HasValue x s g c → g * q ≤ p * c → Within p q x
+value-within nan s g c p q C v h = absurd v
+value-within (inf t) s g c p q C v h = absurd v
+value-within (fin t m e) s g c p q C v h =
+    let over : m * up e * q * c ≡ g * q * down e =
+    mul-right-comm (m * up e) q c ∙ ap (λ (z : ℕ). z * q) (v .1) ∙ mul-right-comm g (down e) q in
+    let under : g * q * down e ≤ p * down e * c =
+    le-trans (mul-le-mul-right (down e) h) (le-of-eq (mul-right-comm p c (down e))) in
+    (tt, le-of-mul-le-mul-right (le-trans (le-of-eq over) under) C)
+
+-- with the value that comes out
+pub round-value : (f : Format) (s : Bool) (a c p q : ℕ) → 0 < c → 0 < q → Held f p q → a * q ≤ p * c
+    → (g : ℕ) × HasValue (round f s a c) s g (2 ^ low f) × (g * q ≤ p * 2 ^ low f)
+round-value f s a c p q C Q held h =
+    let y = round f false a c in
+    let g = grid f a c in
+    let l = 2 ^ low f in
+    let w = round f false p q in
+    let u : g < overflow f = round-finite f a c w (has-finite w false p q held) (round-mono f a c p q C Q h) in
+    let k : num y * q ≤ p * den y = round-upto f a c p q C Q held h .1 in
+    let e : num y * l ≡ g * den y = value→cross y g l (round-val-of f false a c u) in
+    let over : g * q * den y ≡ num y * q * l =
+    mul-right-comm g q (den y) ∙ ap (λ (z : ℕ). z * q) (sym e) ∙ mul-right-comm (num y) l q in
+    let r : p * den y * l ≤ p * l * den y = le-of-eq (mul-right-comm p (den y) l) in
+    let less : g * q ≤ p * l =
+    le-of-mul-le-mul-right (le-trans (le-of-eq over) (le-trans (mul-le-mul-right l k) r)) (den-pos y) in
+    (g, round-val-of f s a c u, less)
+
+pub round-within : (f : Format) (s : Bool) (a c p q : ℕ) → 0 < c → 0 < q → Held f p q → a * q ≤ p * c
+    → Within p q (round f s a c)
+round-within f s a c p q C Q held h =
+    let r = round-value f s a c p q C Q held h in
+    value-within (round f s a c) s (r .0) (2 ^ low f) p q (pow-pos (low f)) (r .1) (r .2)
+
+-- ---- at most a whole number, which is a value of the format up to 2 ^ prec: sums and products are such numbers again
 abbrev pub Bounded : ℕ → Float → Type 0
 Bounded p x = T (finite x) × (num x ≤ p * den x)
 
@@ -141,39 +202,22 @@ bounded-no-nan p x b = finite-no-nan x (b .0)
 pub bounded-more : (p q : ℕ) (x : Float) → p ≤ q → Bounded p x → Bounded q x
 bounded-more p q x h b = (b .0, le-trans (b .1) (mul-le-mul-right (den x) h))
 
-value-bounded : (x : Float) (s : Bool) (g c p : ℕ) → 0 < c → HasValue x s g c → g ≤ p * c → Bounded p x
-value-bounded nan s g c p C v h = absurd v
-value-bounded (inf t) s g c p C v h = absurd v
-value-bounded (fin t m e) s g c p C v h =
-    let under : g * down e ≤ p * down e * c =
-    le-trans (mul-le-mul-right (down e) h) (le-of-eq (mul-right-comm p c (down e))) in
-    (tt, le-of-mul-le-mul-right (le-trans (le-of-eq (v .1)) under) C)
+bounded-of : (p : ℕ) (x : Float) → Within p 1 x → Bounded p x
+bounded-of p x w = (w .0, le-trans (le-of-eq (sym (mul-one (num x)))) (w .1))
 
 pub upto-bounded : (p : ℕ) (x : Float) → Upto p 1 x → Bounded p x
 upto-bounded p nan u = absurd (u .0)
 upto-bounded p (inf s) u = absurd (u .0)
-upto-bounded p (fin s m e) u = (tt, le-trans (le-of-eq (sym (mul-one (m * up e)))) (u .1))
+upto-bounded p (fin s m e) u = bounded-of p (fin s m e) (tt, u .1)
 
 pub whole-bounded : (f : Format) (k : ℕ) → k ≤ 65536 → Bounded k (floatIn f k)
-whole-bounded f k h = value-bounded (floatIn f k) false k 1 k (pow-pos 0) (whole-of f k h) (le-of-eq (sym (mul-one k)))
+whole-bounded f k h =
+    bounded-of k (floatIn f k) (value-within (floatIn f k) false k 1 k 1 (pow-pos 0) (whole-of f k h) (le-refl (k * 1)))
 
--- a whole number up to 2 ^ prec is a value of the format, so that rounding does not pass it
 pub round-bounded : (f : Format) (s : Bool) (a c p : ℕ) → 0 < c → p ≤ 2 ^ prec f → a ≤ p * c → Bounded p (round f s a c)
 round-bounded f s a c p C P h =
-    let held : Held f p 1 = round-whole f false p P in
     let most : a * 1 ≤ p * c = le-trans (le-of-eq (mul-one a)) h in
-    let y = round f false a c in
-    let g = grid f a c in
-    let l = 2 ^ low f in
-    let w = round f false p 1 in
-    let u : g < overflow f =
-    round-finite f a c w (has-finite w false p 1 held) (round-mono f a c p 1 C (pow-pos 0) most) in
-    let k : num y * 1 ≤ p * den y = round-upto f a c p 1 C (pow-pos 0) held most .1 in
-    let k' : num y ≤ p * den y = le-trans (le-of-eq (sym (mul-one (num y)))) k in
-    let e : num y * l ≡ g * den y = value→cross y g l (round-val-of f false a c u) in
-    let r : p * den y * l ≤ p * l * den y = le-of-eq (mul-right-comm p (den y) l) in
-    value-bounded (round f s a c) s g l p (pow-pos (low f)) (round-val-of f s a c u)
-    (le-of-mul-le-mul-right (le-trans (le-of-eq (sym e)) (le-trans (mul-le-mul-right l k') r)) (den-pos y))
+    bounded-of p (round f s a c) (round-within f s a c p 1 C (pow-pos 0) (round-whole f false p P) most)
 
 pub mul-bounded : (f : Format) (x y : Float) (p q : ℕ) → p * q ≤ 2 ^ prec f → Bounded p x → Bounded q y
     → Bounded (p * q) (mul f x y)

@@ -1,7 +1,7 @@
 -- `lut_interp_linear` never answers a NaN, whatever it is asked: each step's numbers are finite, by bounds that need
 -- not be close. Assumes nothing.
 use mathlib.Core.Path.{_≡_, refl, _∙_, ap}
-use mathlib.Core.Bool.{Bool, true, false, not}
+use mathlib.Core.Bool.{Bool, true, false}
 use mathlib.Core.List.{List}
 use Prim.Native.Nat.{ℕ, _≤_}
 use native.Mathlib.Omega.{arith}
@@ -13,8 +13,7 @@ use lib.Ieee.{Float, nan, fin, binary32, binary64, sub, mul, div, ofInt, isNan}
 use Rattle.table.specs.Choice.{pick}
 use Rattle.table.specs.Order.{SixteenBits}
 use Rattle.table.specs.Sizes.{sized, notAbove}
-use Rattle.table.specs.Refusals.{Verdict, granted, rung, ifGranted}
-use Rattle.table.specs.declared.Refusal.the-variants.{TableLength, OutsideUnit}
+use Rattle.table.specs.Refusals.{ifGranted}
 use Rattle.ieee.specs.Range.{nought, one, floatIn, float, upto}
 use Rattle.ieee.proofs.Range.{upto-fact}
 use Rattle.ieee.proofs.NoNan.{no-nan, times-no-nan, Bounded, bounded-no-nan, bounded-more, upto-bounded, whole-bounded, mul-bounded, add-bounded, sub-bounded}
@@ -24,7 +23,7 @@ use Rattle.rounding.proofs.Cut.{ceil-upto}
 use Rattle.rounding.proofs.NoNan.{narrow-keeps}
 use Rattle.interp.specs.declared.Interpolated.{Interpolated}
 use Rattle.interp.specs.Interp.{place, diff, outsideUnit, weighed, weighedUp, linearLookedUp}
-use Rattle.interp.specs.Promises.{valueOfInterpolated, LinearPromise}
+use Rattle.interp.specs.Promises.{valueOfInterpolated, linearVerdict, LinearPromise}
 use Rattle.interp.proofs.Place.{place-asks}
 use Rattle.interp.proofs.Input.{inside-upto}
 use Rattle.interp.proofs.Verdicts.{not-empty}
@@ -100,11 +99,9 @@ pub linear-no-nan : {t : List ℕ} {x : Float} {r : Interpolated} → SixteenBit
 linear-no-nan {t} {x} {r} bits p =
     no-nan (valueOfInterpolated r) (ap isNan (p .value) ∙ go (notAbove (length t)) (outsideUnit x) refl refl)
   where
-    verdict : Bool → Bool → Verdict
-    verdict a b = rung a TableLength (rung (not b) OutsideUnit granted)
-
     go : (a b : Bool) → notAbove (length t) ≡ a → outsideUnit x ≡ b
-        → isNan (ifGranted (verdict a b) (linearLookedUp t x) nought) ≡ false
-    go false b h k = nought-no-nan
-    go true true h k = nought-no-nan
-    go true false h k = looked-up-no-nan t bits x k h
+        → isNan (ifGranted (linearVerdict t x) (linearLookedUp t x) nought) ≡ false
+    go false false h k = simp (h, k) nought-no-nan
+    go false true h k = simp (h, k) nought-no-nan
+    go true true h k = simp (h, k) nought-no-nan
+    go true false h k = simp (h, k) (looked-up-no-nan t bits x k h)

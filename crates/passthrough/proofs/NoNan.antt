@@ -12,7 +12,6 @@ use lib.Ieee.{Float, nan, binary64, mul, div, isNan}
 use Rattle.table.specs.Sizes.{spanned}
 use Rattle.table.specs.Refusals.{granted}
 use Rattle.table.specs.declared.Done.{Done}
-use Rattle.table.specs.declared.Refusal.the-variants.{OutsideRange}
 use Rattle.table.proofs.Sizes.{within-low, within-high}
 use Rattle.table.proofs.Refusals.{rung-granted}
 use Rattle.table.proofs.Answers.{done-granted}
@@ -54,7 +53,7 @@ pub passthrough-no-nan : {o o′ : List Float} → PassthroughPromise o Done.Yes
     → getD o′ i nan ≡ nan → ⊥
 passthrough-no-nan {o} {o′} p i h =
     let g : passthroughVerdict o ≡ granted = done-granted (passthroughVerdict o) (p .number) in
-    let S : spanned (length o) ≡ true = rung-granted (spanned (length o)) OutsideRange granted g .0 in
+    let S : spanned (length o) ≡ true = rung-granted (spanned (length o)) _ granted g .0 in
     let e : o′ ≡ passedThrough (length o) = simp S at (p .after) in
     let n = length o in
     let k : i < n = subst (λ (z : ℕ). i < z) (ap length e ∙ length-tabulated (passed n) n) h in

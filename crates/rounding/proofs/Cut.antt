@@ -39,6 +39,22 @@ ceil-upto k x t =
     last : (a : ℕ) → a < suc k → a ≤ k
     last a h = omega arith
 
+-- the ceil lies less than one above the number, and only a whole number is its own ceil
+module _ (x : Float) where
+  pub ceil-over : num x ≤ ceil x * den x
+  unfolding ceil
+  ceil-over =
+      let n = num x + (den x - 1) in
+      omega (arith, div-add-mod' n (den x), mod-lt n (den-pos x), den-pos x)
+
+  pub ceil-under : ceil x * den x ≤ num x + den x
+  unfolding ceil
+  ceil-under = let n = num x + (den x - 1) in omega (arith, div-add-mod' n (den x), den-pos x)
+
+  pub floor-is-ceil : num x ≡ ceil x * den x → floor x ≡ ceil x
+  unfolding floor
+  floor-is-ceil e = ap (λ (z : ℕ). z / den x) e ∙ mul-div-cancel (ceil x) (den-pos x)
+
 -- ---- of a whole number
 module _ (x : Float) (s : Bool) (k : ℕ) (h : HasValue x s k 1) where
   size : num x ≡ k * den x
