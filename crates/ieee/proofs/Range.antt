@@ -16,7 +16,7 @@ use lib.Ieee.Exact.{HasValue, round-exact}
 use lib.Ieee.Order.{round-mono, le-of-values}
 use lib.Ieee.Positive.{num, den}
 use lib.Ieee.Scale.{grid, overflow, finite, round-same}
-use Rattle.ieee.specs.Range.{whole, nought, upto}
+use Rattle.ieee.specs.Range.{whole, nought, floatIn, upto}
 use Rattle.ieee.proofs.Tests.{or-left, or-le, negative-under, negative-not-over}
 use Rattle.ieee.proofs.Operations.{mul-of, div-of, add-of}
 use Rattle.ieee.proofs.Units.{round-val-of, round-finite, grid-over}
@@ -145,7 +145,7 @@ small binary64 = lit≤ tt
 pub whole-held : (f : Format) (k : ℕ) → k ≤ 65536 → Held f k 1
 whole-held f k h = round-whole f false k (le-trans h (small f))
 
-pub whole-of : (f : Format) (k : ℕ) → k ≤ 65536 → HasValue (ofInt f (pos k)) false k 1
+pub whole-of : (f : Format) (k : ℕ) → k ≤ 65536 → HasValue (floatIn f k) false k 1
 unfolding ofInt
 whole-of f k h = whole-held f k h
 
@@ -221,14 +221,14 @@ add-upto f (fin false m e) y p q b d P Q q' d' Q' u v w h =
         le-of-mul-le-mul-right (le-trans (le-of-eq l) (le-trans (add-le-add (mul-le-mul-right (d * Q) k) (le-refl (b * c * Q * q))) (le-trans (le-of-eq m) (le-trans (mul-le-mul-right c h) (le-of-eq r))))) q'
 
 -- ---- the two that every lookup needs
-pub scaled-upto : (f : Format) (y : Float) (k : ℕ) → T (upto 1 y) → k ≤ 65536 → T (upto k (mul f y (ofInt f (pos k))))
+pub scaled-upto : (f : Format) (y : Float) (k : ℕ) → T (upto 1 y) → k ≤ 65536 → T (upto k (mul f y (floatIn f k)))
 scaled-upto f y k t K =
-    upto-test k (mul f y (ofInt f (pos k))) (mul-upto f y (ofInt f (pos k)) 1 1 k 1 k 1 (pow-pos 0) (pow-pos 0) (pow-pos 0) (upto-fact 1 y t) (whole-of f k K) (whole-held f k K) (omega arith))
+    upto-test k (mul f y (floatIn f k)) (mul-upto f y (floatIn f k) 1 1 k 1 k 1 (pow-pos 0) (pow-pos 0) (pow-pos 0) (upto-fact 1 y t) (whole-of f k K) (whole-held f k K) (omega arith))
 
-pub ratio-upto : (f : Format) (p q : ℕ) → p ≤ q → 0 < q → q ≤ 65536 → T (upto 1 (div f (ofInt f (pos p)) (ofInt f (pos q))))
+pub ratio-upto : (f : Format) (p q : ℕ) → p ≤ q → 0 < q → q ≤ 65536 → T (upto 1 (div f (floatIn f p) (floatIn f q)))
 ratio-upto f p q h Q K =
-    upto-test 1 (div f (ofInt f (pos p)) (ofInt f (pos q)))
-    (div-upto f (ofInt f (pos p)) (ofInt f (pos q)) p 1 q 1 1 1 (pow-pos 0) (pow-pos 0) Q (pow-pos 0) (whole-of f p (le-trans h K)) (whole-of f q K) (whole-held f 1 (lit≤ tt)) (omega arith))
+    upto-test 1 (div f (floatIn f p) (floatIn f q))
+    (div-upto f (floatIn f p) (floatIn f q) p 1 q 1 1 1 (pow-pos 0) (pow-pos 0) Q (pow-pos 0) (whole-of f p (le-trans h K)) (whole-of f q K) (whole-held f 1 (lit≤ tt)) (omega arith))
 
 -- ---- a quotient of whole numbers is at most one part in 2 ^ prec too large
 value-upto : (x : Float) (g c p q : ℕ) → 0 < c → HasValue x false g c → g * q ≤ p * c → Upto p q x
@@ -245,10 +245,10 @@ enough : (f : Format) → hid f * 65536 ≤ 2 ^ low f
 enough binary32 = lit≤ tt
 enough binary64 = lit≤ tt
 
-pub div-close : (f : Format) (a b : ℕ) → 0 < a → 0 < b → a ≤ 65536 → b ≤ 65536 → Upto (a * (2 ^ prec f + 1)) (b * 2 ^ prec f) (div f (ofInt f (pos a)) (ofInt f (pos b)))
+pub div-close : (f : Format) (a b : ℕ) → 0 < a → 0 < b → a ≤ 65536 → b ≤ 65536 → Upto (a * (2 ^ prec f + 1)) (b * 2 ^ prec f) (div f (floatIn f a) (floatIn f b))
 div-close f a b A B a' b' =
-    let is : div f (ofInt f (pos a)) (ofInt f (pos b)) ≡ round f false a b =
-    div-of f (ofInt f (pos a)) (ofInt f (pos b)) false false a 1 b 1 (pow-pos 0) (pow-pos 0) B (whole-of f a a') (whole-of f b b') ∙ ap₂ (round f false) (mul-one a) (mul-one b) in
+    let is : div f (floatIn f a) (floatIn f b) ≡ round f false a b =
+    div-of f (floatIn f a) (floatIn f b) false false a 1 b 1 (pow-pos 0) (pow-pos 0) B (whole-of f a a') (whole-of f b b') ∙ ap₂ (round f false) (mul-one a) (mul-one b) in
     let u : grid f a b < overflow f =
     round-finite f a b (round f false a 1) (has-finite (round f false a 1) false a 1 (whole-held f a a')) (round-mono f a b a 1 B (pow-pos 0) (le-trans (le-of-eq (mul-one a)) (le-mul a b B))) in
     let g : grid f a b * b * 2 ^ prec f ≤ a * 2 ^ low f * (2 ^ prec f + 1) =

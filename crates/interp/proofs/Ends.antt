@@ -17,7 +17,7 @@ use lib.Ieee.Exact.{HasValue}
 use lib.Ieee.Scale.{finite}
 use Rattle.table.specs.Choice.{pick}
 use Rattle.table.specs.Sizes.{sized}
-use Rattle.ieee.specs.Range.{nought, one}
+use Rattle.ieee.specs.Range.{nought, one, floatIn}
 use Rattle.ieee.proofs.Tests.{negative-under, positive-not-under}
 use Rattle.ieee.proofs.Value.{value-unique}
 use Rattle.ieee.proofs.Operations.{mul-of, sign-kept}
@@ -103,13 +103,13 @@ mixed-alike (fin s (suc m) e) F N =
     (equals-itself (fin s (suc m) e) tt)
 
 -- ---- v is a whole number k: both entries are entry k, and diff is 0
-at-whole : (t : List Float) (k : ℕ) (v : Float) → k ≤ 65536 → v ≡ ofInt binary32 (pos k) → mixedAt t v ≡ mixed (getD t k nan) (getD t k nan) nought
+at-whole : (t : List Float) (k : ℕ) (v : Float) → k ≤ 65536 → v ≡ floatIn binary32 k → mixedAt t v ≡ mixed (getD t k nan) (getD t k nan) nought
 unfolding mixedAt diff
 at-whole t k v K e =
-    let w = ofInt binary32 (pos k) in
+    let w = floatIn binary32 k in
     let h : HasValue w false k 1 = whole-of binary32 k K in
     ap (mixedAt t) e
-    ∙ ap₂ (λ (i j : ℕ). mixed (getD t i nan) (getD t j nan) (sub binary32 (ofInt binary32 (pos i)) w)) (ceil-whole w false k h) (floor-whole w false k h)
+    ∙ ap₂ (λ (i j : ℕ). mixed (getD t i nan) (getD t j nan) (sub binary32 (floatIn binary32 i) w)) (ceil-whole w false k h) (floor-whole w false k h)
     ∙ ap (mixed (getD t k nan) (getD t k nan)) (minus-itself binary32 w (has-finite w false k 1 h))
 
 -- v is a zero of either sign
@@ -125,18 +125,18 @@ module _ (t : List Float) (S : sized (length t) ≡ true) (x : Float) where
   K : k ≤ 65536
   K = last-few (length t) S
 
-  last-place : T (fits binary32 x) → lt x one ≡ false → place binary32 (length t) (unit x) ≡ ofInt binary32 (pos k)
+  last-place : T (fits binary32 x) → lt x one ≡ false → place binary32 (length t) (unit x) ≡ floatIn binary32 k
   unfolding place ofInt
   last-place X h =
-      ap (λ (y : Float). mul binary32 y (ofInt binary32 (pos k))) (unit-top x X h)
-      ∙ mul-of binary32 one (ofInt binary32 (pos k)) false false 1 1 k 1 (pow-pos 0) (pow-pos 0) (refl, refl) (whole-of binary32 k K)
+      ap (λ (y : Float). mul binary32 y (floatIn binary32 k)) (unit-top x X h)
+      ∙ mul-of binary32 one (floatIn binary32 k) false false 1 1 k 1 (pow-pos 0) (pow-pos 0) (refl, refl) (whole-of binary32 k K)
       ∙ ap (λ (z : ℕ). round binary32 false z 1) (one-mul k)
 
   first-place : le x nought ≡ true → (s : Bool) × (place binary32 (length t) (unit x) ≡ null s)
   unfolding place
   first-place h =
       let z = unit-bottom x (subst T (sym h) tt) in
-      (z .0, ap (λ (y : Float). mul binary32 y (ofInt binary32 (pos k))) (z .2) ∙ go (ofInt binary32 (pos k)) (z .0) (z .1) (whole-of binary32 k K))
+      (z .0, ap (λ (y : Float). mul binary32 y (floatIn binary32 k)) (z .2) ∙ go (floatIn binary32 k) (z .0) (z .1) (whole-of binary32 k K))
     where
       go : (w : Float) (s : Bool) (e : ℤ) → HasValue w false k 1 → mul binary32 (fin s 0 e) w ≡ null s
       go nan s e v = absurd v

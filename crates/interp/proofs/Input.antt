@@ -8,7 +8,7 @@ use Rattle.table.specs.Choice.{pick}
 use Rattle.ieee.specs.Range.{nought, one, upto}
 use Rattle.ieee.proofs.Tests.{differs-is-nan, bits-nought, bits-one}
 use Rattle.ieee.proofs.Range.{outside-is}
-use Rattle.rounding.specs.Size.{least, MinPromise}
+use Rattle.rounding.specs.Size.{minimum, MinPromise}
 use Rattle.interp.specs.Interp.{unit, outsideUnit}
 
 -- ---- `unit`
@@ -17,29 +17,29 @@ unfolding lt
 one-not-under = refl
 
 -- from the lesser of x and 1
-from-least : (x : Float) → pick (lt (least x one) nought) nought (least x one) ≡ unit x
-unfolding least unit
-from-least x = go (isNan x || lt one x)
+from-minimum : (x : Float) → pick (lt (minimum x one) nought) nought (minimum x one) ≡ unit x
+unfolding minimum unit
+from-minimum x = go (isNan x || lt one x)
   where
     go : (b : Bool) → pick (lt (cond b one x) nought) nought (cond b one x) ≡ pick b one (pick (lt x nought) nought x)
     go true = ap (λ (t : Bool). pick t nought one) one-not-under
     go false = refl
 
 module _ (x r : Float) (p : MinPromise x (ofBits binary32 1065353216) r) where
-  is-least : r ≡ least x one
-  is-least = p .value ∙ ap (least x) (bits-one binary32)
+  is-minimum : r ≡ minimum x one
+  is-minimum = p .value ∙ ap (minimum x) (bits-one binary32)
 
   pub unit-low : lt r (ofBits binary32 0) ≡ true → ofBits binary32 0 ≡ unit x
   unit-low h =
       bits-nought binary32
-      ∙ ap (λ (t : Bool). pick t nought (least x one)) (sym (ap₂ lt (sym is-least) (sym (bits-nought binary32)) ∙ h))
-      ∙ from-least x
+      ∙ ap (λ (t : Bool). pick t nought (minimum x one)) (sym (ap₂ lt (sym is-minimum) (sym (bits-nought binary32)) ∙ h))
+      ∙ from-minimum x
 
   pub unit-kept : lt r (ofBits binary32 0) ≡ false → r ≡ unit x
   unit-kept h =
-      is-least
-      ∙ ap (λ (t : Bool). pick t nought (least x one)) (sym (ap₂ lt (sym is-least) (sym (bits-nought binary32)) ∙ h))
-      ∙ from-least x
+      is-minimum
+      ∙ ap (λ (t : Bool). pick t nought (minimum x one)) (sym (ap₂ lt (sym is-minimum) (sym (bits-nought binary32)) ∙ h))
+      ∙ from-minimum x
 
 one-upto : T (upto 1 one)
 unfolding upto le

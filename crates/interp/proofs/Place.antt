@@ -5,10 +5,10 @@ use Prim.Native.Nat.{ℕ, _-_, _≤_, _<_}
 use native.Mathlib.Omega.{arith}
 use lib.IntN.{pos}
 use lib.Dec.{T}
-use lib.Ieee.{Float, Format, mul, ofInt, inFloat}
+use lib.Ieee.{Float, Format, mul, inFloat}
 use Rattle.table.specs.Sizes.{sized}
 use Rattle.table.proofs.Sizes.{within-low, within-high}
-use Rattle.ieee.specs.Range.{upto}
+use Rattle.ieee.specs.Range.{floatIn, upto}
 use Rattle.ieee.proofs.Range.{in-float, upto-more, scaled-upto}
 use Rattle.rounding.specs.Cut.{FloorPromise, CeilPromise}
 use Rattle.rounding.proofs.Cut.{floor-upto, ceil-upto}
@@ -25,7 +25,7 @@ module _ (n : ℕ) (S : sized n ≡ true) where
 
   module _ (f : Format) (y : Float) (t : T (upto 1 y)) where
     abbrev v : Float
-    v = mul f y (ofInt f (pos (n - 1)))
+    v = mul f y (floatIn f (n - 1))
 
     upto-last : T (upto (n - 1) v)
     upto-last = scaled-upto f y (n - 1) t last-few

@@ -3,21 +3,20 @@ use Prim.Native.Nat.{ℕ, _-_}
 use mathlib.Core.Bool.{Bool, _||_}
 use mathlib.Core.List.{List}
 use lib.ListN.{length, getD}
-use lib.IntN.{pos}
 use lib.Dec.{eqb}
-use lib.Ieee.{Float, nan, Format, binary32, binary64, add, sub, mul, div, lt, isNan, ofInt}
+use lib.Ieee.{Float, nan, Format, binary32, binary64, add, sub, mul, div, lt, isNan}
 use Rattle.table.specs.Choice.{pick}
-use Rattle.ieee.specs.Range.{nought, one}
+use Rattle.ieee.specs.Range.{nought, one, floatIn, float}
 use Rattle.rounding.specs.Cut.{floor, ceil}
 use Rattle.rounding.specs.Nearest.{narrow}
 
 -- v = x·(n-1) rounded once
 unfoldable pub place : Format → ℕ → Float → Float
-place f n x = mul f x (ofInt f (pos (n - 1)))
+place f n x = mul f x (floatIn f (n - 1))
 
 -- diff = upper - v, upper = ceil v
 unfoldable pub diff : Format → Float → Float
-diff f v = sub f (ofInt f (pos (ceil v))) v
+diff f v = sub f (floatIn f (ceil v)) v
 
 -- x above 1 or NaN reads as 1, below 0 as 0
 unfoldable pub unit : Float → Float
@@ -42,8 +41,8 @@ outsideUnit x = isNan x || (lt x nought || lt one x)
 -- in f64, T[floor v]·d + T[ceil v]·(1-d)
 unfoldable pub weighed : List ℕ → Float → Float
 weighed t v =
-    add binary64 (mul binary64 (ofInt binary64 (pos (getD t (floor v) 0))) (diff binary64 v))
-    (mul binary64 (ofInt binary64 (pos (getD t (ceil v) 0))) (sub binary64 one (diff binary64 v)))
+    add binary64 (mul binary64 (float (getD t (floor v) 0)) (diff binary64 v))
+    (mul binary64 (float (getD t (ceil v) 0)) (sub binary64 one (diff binary64 v)))
 
 unfoldable pub weighedUp : List ℕ → Float → Float
 weighedUp t x = weighed t (place binary64 (length t) x)
@@ -52,4 +51,4 @@ weighedUp t x = weighed t (place binary64 (length t) x)
 unfoldable pub linearLookedUp : List ℕ → Float → Float
 linearLookedUp t x =
     pick (eqb (length t) 0) (narrow x)
-    (mul binary32 (narrow (weighedUp t x)) (div binary32 one (ofInt binary32 (pos 65535))))
+    (mul binary32 (narrow (weighedUp t x)) (div binary32 one (floatIn binary32 65535)))

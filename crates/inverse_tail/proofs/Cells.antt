@@ -9,13 +9,13 @@ use lib.ListN.{length, getD}
 use lib.Dec.{T, eqb, lit<, lit≤}
 use lib.Ieee.{Float, binary64, neg, add, sub, mul, div, lt, ofBits}
 use Rattle.table.specs.Choice.{pick}
-use Rattle.ieee.specs.Range.{upto}
+use Rattle.ieee.specs.Range.{float, upto}
 use Rattle.ieee.proofs.Operations.{mul-swap}
 use Rattle.ieee.proofs.Range.{scaled-upto, ratio-upto, upto-more}
 use Rattle.rounding.specs.Cut.{floor, ceil, FloorPromise, CeilPromise}
 use Rattle.rounding.specs.Size.{abs, AbsPromise}
 use Rattle.rounding.proofs.Cut.{floor-upto, ceil-upto}
-use Rattle.inverse_tail.specs.Tail.{float, cellOf, nodeOf, rounded, between, tail}
+use Rattle.inverse_tail.specs.Tail.{cellOf, nodeOf, rounded, between, tail}
 use Rattle.inverse_tail.proofs.Clamp.{top-bits, hundredth-bits, rounded-fits}
 
 -- ---- the two cells

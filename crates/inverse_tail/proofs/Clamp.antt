@@ -14,13 +14,13 @@ use lib.Ieee.Bits.{is-true}
 use lib.Ieee.Fits.{down-pos, and-l, and-r}
 use lib.Ieee.Order.{le-of-values}
 use Rattle.table.specs.Choice.{pick}
-use Rattle.ieee.specs.Range.{whole, nought, half, upto}
+use Rattle.ieee.specs.Range.{whole, nought, float, half, upto}
 use Rattle.ieee.proofs.Tests.{bits-nought, negative-under}
 use Rattle.ieee.proofs.Zero.{zeros-ordered}
 use Rattle.ieee.proofs.Range.{outside-is}
 use Rattle.rounding.specs.Cut.{floor, FloorPromise}
 use Rattle.rounding.proofs.Cut.{half-upto, half-floor, upto-quarter}
-use Rattle.inverse_tail.specs.Tail.{float, hundredth, rounded}
+use Rattle.inverse_tail.specs.Tail.{hundredth, rounded}
 
 -- ---- the constants, by their patterns
 pub top-bits : ofBits binary64 0x40ef_ffe0_0000_0000 ≡ float 65535

@@ -4,17 +4,12 @@ use Prim.Native.Nat.{ℕ, _-_}
 use mathlib.Core.Bool.{false}
 use mathlib.Core.List.{List}
 use lib.ListN.{length, getD}
-use lib.IntN.{pos}
 use lib.Dec.{eqb}
-use lib.Ieee.{Float, binary64, round, neg, add, sub, mul, div, lt, le, ofInt}
+use lib.Ieee.{Float, binary64, round, neg, add, sub, mul, div, lt, le}
 use Rattle.table.specs.Choice.{pick}
-use Rattle.ieee.specs.Range.{nought, half}
+use Rattle.ieee.specs.Range.{nought, float, half}
 use Rattle.rounding.specs.Cut.{floor, ceil}
 use Rattle.rounding.specs.Size.{abs}
-
--- a whole number as an f64: exactly it, up to 2^53
-abbrev pub float : ℕ → Float
-float k = ofInt binary64 (pos k)
 
 -- the f64 nearest to 0.01
 abbrev pub hundredth : Float

@@ -6,12 +6,11 @@ use native.Mathlib.Omega.{arith}
 use lib.Dec.{T, lit<, lit≤}
 use lib.Ieee.{Float, binary64, add, mul, div, ofBits}
 use lib.Ieee.Exact.{round-exact}
-use Rattle.ieee.specs.Range.{half, upto}
+use Rattle.ieee.specs.Range.{float, half, upto}
 use Rattle.ieee.proofs.Operations.{mul-swap}
 use Rattle.ieee.proofs.Range.{Upto, Held, mul-upto, whole-of, div-close}
 use Rattle.rounding.specs.Cut.{floor, FloorPromise}
 use Rattle.rounding.proofs.Cut.{half-upto, half-floor}
-use Rattle.inverse_tail.specs.Tail.{float}
 use Rattle.invert.specs.Invert.{scaleOf, asked}
 use Rattle.inverse_tail.proofs.Clamp.{top-bits, half-bits}
 

@@ -3,9 +3,8 @@ use Prim.Native.Nat.{ℕ, _-_}
 use mathlib.Core.List.{List}
 use lib.Ieee.{Float, binary64, add, mul, div}
 use Rattle.table.specs.Fill.{tabulated}
-use Rattle.ieee.specs.Range.{half}
+use Rattle.ieee.specs.Range.{float, half}
 use Rattle.rounding.specs.Cut.{floor}
-use Rattle.inverse_tail.specs.Tail.{float}
 use Rattle.inverse.specs.Inverse.{inverted}
 
 -- s = 65535/(m-1)

@@ -27,7 +27,7 @@ use Rattle.para.proofs.Promises.{Granted, granted-read}
 use Rattle.para_curve.specs.Promises.{nearest, CurvePromise}
 
 -- a curve may have as many numbers as a type has
-count-counted : (t : ℕ) → t ≤ 4 → counted (countOf t) ≡ true
+pub count-counted : (t : ℕ) → t ≤ 4 → counted (countOf t) ≡ true
 unfolding countOf counted
 count-counted = five (λ t. counted (countOf t) ≡ true) refl refl refl refl refl
 

@@ -7,9 +7,10 @@ use lib.ListN.{length}
 use lib.Ieee.{Float}
 use Rattle.table.specs.Refusals.{numberOf, Verdict, granted, rung, numberIn, ifGranted}
 use Rattle.table.specs.declared.Refusal.the-variants.{ParameterCount}
+use Rattle.ieee.specs.Range.{nought}
 use Rattle.parametric.specs.declared.ParametricCurve.{ParametricCurve}
 use Rattle.parametric.specs.declared.Unified.{Unified}
-use Rattle.parametric.specs.Unify.{nought, counted, unified}
+use Rattle.parametric.specs.Unify.{counted, unified}
 use Rattle.parametric.specs.Compare.{close}
 
 -- Document 01's number and values for each case of the answer: a refused one has 0 in each of the seven places.

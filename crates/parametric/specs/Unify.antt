@@ -4,16 +4,10 @@ use mathlib.Core.Bool.{Bool, true}
 use mathlib.Core.List.{List}
 use lib.ListN.{length, getD}
 use lib.Dec.{eqb}
-use lib.Ieee.{Float, nan, binary32, neg, div, ofBits}
+use lib.Ieee.{Float, nan, binary32, neg, div}
 use Rattle.table.specs.Choice.{pick}
+use Rattle.ieee.specs.Range.{nought, one}
 use Rattle.parametric.specs.declared.ParametricCurve.{ParametricCurve}
-
--- 0 and 1 as f32
-abbrev pub nought : Float
-nought = ofBits binary32 0
-
-abbrev pub one : Float
-one = ofBits binary32 0x3f80_0000
 
 -- d = -b/a, an f32 step: an infinity or a NaN where a is 0
 abbrev pub crossing : Float → Float → Float

@@ -5,21 +5,21 @@ use mathlib.Core.Bool.{true, false}
 use mathlib.Core.List.{List}
 use Prim.Native.Nat.{ℕ, _-_}
 use lib.ListN.{length}
-use lib.IntN.{pos}
-use lib.Ieee.{Float, binary64, mul, div, ofInt, ofBits}
+use lib.Ieee.{Float, binary64, mul, div, ofBits}
 use Rattle.table.specs.Sizes.{spanned}
 use Rattle.table.specs.declared.Done.{Done}
 use Rattle.table.specs.declared.Refusal.the-variants.{OutsideRange}
 use Rattle.table.proofs.Answers.{same-done}
+use Rattle.ieee.specs.Range.{float}
 use Rattle.ieee.proofs.Tests.{bits-one}
 use Rattle.rounding.specs.Nearest.{narrow, NarrowPromise}
 use Rattle.passthrough.specs.Passed.{passed, passedThrough}
 use Rattle.passthrough.specs.Promises.{PassthroughPromise}
 
 -- the constant 1 as a program has it
-pub passed-gives : (n i : ℕ) (r : Float) → NarrowPromise (mul binary64 (ofInt binary64 (pos i)) (div binary64 (ofBits binary64 4607182418800017408) (ofInt binary64 (pos (n - 1))))) r → r ≡ passed n i
+pub passed-gives : (n i : ℕ) (r : Float) → NarrowPromise (mul binary64 (float i) (div binary64 (ofBits binary64 4607182418800017408) (float (n - 1)))) r → r ≡ passed n i
 unfolding passed
-passed-gives n i r p = p .value ∙ ap (λ (c : Float). narrow (mul binary64 (ofInt binary64 (pos i)) (div binary64 c (ofInt binary64 (pos (n - 1)))))) (bits-one binary64)
+passed-gives n i r p = p .value ∙ ap (λ (c : Float). narrow (mul binary64 (float i) (div binary64 c (float (n - 1))))) (bits-one binary64)
 
 module _ (o : List Float) where
   pub passthrough-refused : spanned (length o) ≡ false → PassthroughPromise o (Done.Refused OutsideRange) o

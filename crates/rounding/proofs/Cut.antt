@@ -10,11 +10,11 @@ use lib.Dec.{T, ltb, lt→ltb, lit<, lit≤}
 use lib.Arith.{digits-div}
 use lib.Pow.{pow-pos}
 use borrow.Author.Tests.{lt-ltb, le-ltb, ltb-true, ltb-false}
-use lib.Ieee.{Float, nan, inf, fin, Format, binary64, add, up, down, lt, toUnsigned, ofInt}
+use lib.Ieee.{Float, nan, inf, fin, Format, binary64, add, up, down, lt, toUnsigned}
 use lib.Ieee.Fits.{down-pos}
 use lib.Ieee.Exact.{HasValue, round-exact}
 use lib.Ieee.Positive.{num, den, den-pos}
-use Rattle.ieee.specs.Range.{half, upto}
+use Rattle.ieee.specs.Range.{floatIn, half, upto}
 use Rattle.ieee.proofs.Range.{counts, Upto, Held, upto-fact, upto-test, add-upto, whole-of}
 use Rattle.rounding.specs.Cut.{floor, ceil, FloorPromise, CeilPromise}
 
@@ -38,6 +38,22 @@ ceil-upto k x t =
 
     last : (a : ℕ) → a < suc k → a ≤ k
     last a h = omega arith
+
+-- the ceil lies less than one above the number, and only a whole number is its own ceil
+module _ (x : Float) where
+  pub ceil-over : num x ≤ ceil x * den x
+  unfolding ceil
+  ceil-over =
+      let n = num x + (den x - 1) in
+      omega (arith, div-add-mod' n (den x), mod-lt n (den-pos x), den-pos x)
+
+  pub ceil-under : ceil x * den x ≤ num x + den x
+  unfolding ceil
+  ceil-under = let n = num x + (den x - 1) in omega (arith, div-add-mod' n (den x), den-pos x)
+
+  pub floor-is-ceil : num x ≡ ceil x * den x → floor x ≡ ceil x
+  unfolding floor
+  floor-is-ceil e = ap (λ (z : ℕ). z / den x) e ∙ mul-div-cancel (ceil x) (den-pos x)
 
 -- ---- of a whole number
 module _ (x : Float) (s : Bool) (k : ℕ) (h : HasValue x s k 1) where
@@ -184,9 +200,9 @@ module _ (x : Float) (t : T (upto 65536 x)) where
       let k : r ≡ floor x = e ∙ truncated x 64 (upto-fact 65536 x t .0) far in
       record { value = k; small = subst (λ (z : ℕ). z ≤ 65536) (sym k) (floor-upto 65536 x t) }
 
-  pub ceil-gives : (f : Format) (r : ℕ) (b : Bool) → FloorPromise x r → lt (ofInt f (pos r)) x ≡ b → CeilPromise x (cond b (r + 1) r)
+  pub ceil-gives : (f : Format) (r : ℕ) (b : Bool) → FloorPromise x r → lt (floatIn f r) x ≡ b → CeilPromise x (cond b (r + 1) r)
   ceil-gives f r b p e =
       let k : cond b (r + 1) r ≡ ceil x =
       ap (λ (z : ℕ). cond b (z + 1) z) (p .value)
-      ∙ ceil-of-test x (ofInt f (pos r)) b (upto-fact 65536 x t .0) (subst (λ (z : ℕ). HasValue (ofInt f (pos r)) false z 1) (p .value) (whole-of f r (p .small))) e in
+      ∙ ceil-of-test x (floatIn f r) b (upto-fact 65536 x t .0) (subst (λ (z : ℕ). HasValue (floatIn f r) false z 1) (p .value) (whole-of f r (p .small))) e in
       record { value = k; small = subst (λ (z : ℕ). z ≤ 65536) (sym k) (ceil-upto 65536 x t) }

@@ -17,25 +17,25 @@ use Rattle.ieee.proofs.Tests.{differs-is-nan, bits-nought, negative-under, posi
 use Rattle.ieee.proofs.Zero.{zero-is-null, zero-plus-zero, zeros-ordered}
 use Rattle.ieee.proofs.Value.{round-id}
 use Rattle.ieee.proofs.Operations.{add-of}
-use Rattle.rounding.specs.Size.{least, abs, MinPromise, AbsPromise}
+use Rattle.rounding.specs.Size.{minimum, abs, MinPromise, AbsPromise}
 
 -- ---- the lesser
-pub least-nan : (x bound : Float) → ne x x ≡ true → MinPromise x bound bound
-unfolding least
-least-nan x bound h = record { value = sym (ap (λ (t : Bool). cond (t || lt bound x) bound x) (differs-is-nan x true h)) }
+pub min-nan : (x bound : Float) → ne x x ≡ true → MinPromise x bound bound
+unfolding minimum
+min-nan x bound h = record { value = sym (ap (λ (t : Bool). cond (t || lt bound x) bound x) (differs-is-nan x true h)) }
 
-pub least-over : (x bound : Float) → ne x x ≡ false → lt bound x ≡ true → MinPromise x bound bound
-unfolding least
-least-over x bound h k = record { value = sym (ap₂ (λ (t u : Bool). cond (t || u) bound x) (differs-is-nan x false h) k) }
+pub min-over : (x bound : Float) → ne x x ≡ false → lt bound x ≡ true → MinPromise x bound bound
+unfolding minimum
+min-over x bound h k = record { value = sym (ap₂ (λ (t u : Bool). cond (t || u) bound x) (differs-is-nan x false h) k) }
 
-pub least-itself : (x bound : Float) → ne x x ≡ false → lt bound x ≡ false → MinPromise x bound x
-unfolding least
-least-itself x bound h k = record { value = sym (ap₂ (λ (t u : Bool). cond (t || u) bound x) (differs-is-nan x false h) k) }
+pub min-itself : (x bound : Float) → ne x x ≡ false → lt bound x ≡ false → MinPromise x bound x
+unfolding minimum
+min-itself x bound h k = record { value = sym (ap₂ (λ (t u : Bool). cond (t || u) bound x) (differs-is-nan x false h) k) }
 
 -- a number that is not below 0, cut off at k, is from 0 to k
-pub least-upto : (k : ℕ) (x : Float) → lt x nought ≡ false → T (upto k (least x (whole k)))
-unfolding least
-least-upto k x h = go (isNan x) (lt (whole k) x) refl refl
+pub min-upto : (k : ℕ) (x : Float) → lt x nought ≡ false → T (upto k (minimum x (whole k)))
+unfolding minimum
+min-upto k x h = go (isNan x) (lt (whole k) x) refl refl
   where
     bound-in : T (upto k (whole k))
     bound-in = upto-test k (whole k) (tt, le-of-eq (mul-one (k * 1)))

@@ -4,8 +4,8 @@ use mathlib.Core.Bool.{false, _||_, cond}
 use lib.Ieee.{Float, nan, inf, fin, isNan, lt}
 
 -- x where it is above the bound, or a NaN, reads as the bound
-unfoldable pub least : Float → Float → Float
-least x bound = cond (isNan x || lt bound x) bound x
+unfoldable pub minimum : Float → Float → Float
+minimum x bound = cond (isNan x || lt bound x) bound x
 
 -- |x|: a NaN stays one, and -0.0 becomes 0.0
 unfoldable pub abs : Float → Float
@@ -14,7 +14,7 @@ abs (inf s) = inf false
 abs (fin s m e) = fin false m e
 
 pub record MinPromise (x bound r : Float) : Type 0 where
-  pub value : r ≡ least x bound
+  pub value : r ≡ minimum x bound
 
 pub record AbsPromise (x r : Float) : Type 0 where
   pub value : r ≡ abs x

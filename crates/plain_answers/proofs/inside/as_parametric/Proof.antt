@@ -1,4 +1,5 @@
 -- `as_parametric` meets its contract, case by case. Assumes nothing.
+use lib.Ieee.{ofBits}
 use Rattle.plain_answers.proofs.inside.as_parametric.Statement.{statement}
 use Rattle.plain_answers.proofs.inside.as_parametric.Tie as tie
 
@@ -15,6 +16,7 @@ returns : tie.Need-returns
 returns c = rw (c .before .answer .given .1)
 
 returns-2 : tie.Need-returns-2
+unfolding ofBits
 returns-2 c = rw (c .before .before .answer2 .given .1, c .number .ensures)
 
 pub as-parametric-spec : {M : Type 1} → statement M
