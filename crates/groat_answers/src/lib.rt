@@ -54,6 +54,21 @@ pub fn put_shorts(s: State, output: &mut [u8; 65535], list: &[u16]) -> State {
     here
 }
 
+fn put_wide(s: State, output: &mut [u8; 65535], x: u32) -> State {
+    put_decimal(s, output, wide(x))
+}
+
+pub fn put_wides(s: State, output: &mut [u8; 65535], list: &[u32]) -> State {
+    let mut here = put_none(s, output, list.len());
+    let mut i = 0;
+    while i < list.len() {
+        here = put_comma(here, output, i);
+        here = put_wide(here, output, list[i]);
+        i += 1;
+    }
+    here
+}
+
 pub fn put_floats(s: State, output: &mut [u8; 65535], list: &[f32]) -> State {
     let mut here = put_none(s, output, list.len());
     let mut i = 0;

@@ -52,7 +52,7 @@ fn place_of_whole(question: WholeQuestion) -> Place {
 
 fn place_of_float(question: FloatQuestion) -> Place {
     match question {
-        FloatQuestion::LookupF64 => Place::Double,
+        FloatQuestion::LookupF64 | FloatQuestion::Narrow => Place::Double,
         FloatQuestion::LookupF32 => Place::Single,
         FloatQuestion::Fixed8 => Place::Short,
         FloatQuestion::Raw16 => Place::Raw,
@@ -144,6 +144,10 @@ fn raw16(code: u64) -> f32 {
     rounding::s15_fixed16_number_to_float(raw(code))
 }
 
+fn narrowed(code: u64) -> f32 {
+    rounding::nearest_f64_to_f32(double_of(code))
+}
+
 fn put_real(
     question: FloatQuestion,
     s: State,
@@ -157,6 +161,7 @@ fn put_real(
         FloatQuestion::LookupF32 => put_interpolated(s, output, interpolated_float(floats, code)),
         FloatQuestion::Fixed8 => put_float(s, output, fixed8(code)),
         FloatQuestion::Raw16 => put_float(s, output, raw16(code)),
+        FloatQuestion::Narrow => put_float(s, output, narrowed(code)),
     }
 }
 

@@ -18,6 +18,8 @@ pub fn put_help(s: State, output: &mut [u8; 65535]) -> State {
         degenerated: whether it stands still at an end\n\
         lookup LIST: the density at each drive\n\
         least LIST: the least drive that reaches each density\n\
+        row LIST: the densities at the drives, by one call\n\
+        leastrow LIST: the least drives of the densities, by one call; 65536 for none\n\
         inverse LIST: the Rust's inverse of each density\n\
         invert M: the inverted table of M entries\n\
         gamma N DEPTH LIST: the integer gamma lookup at each input\n\
@@ -28,6 +30,7 @@ pub fn put_help(s: State, output: &mut [u8; 65535]) -> State {
         passthrough N: the straight line of N floats\n\
         fixed8 LIST: the f32 of each 8.8 number\n\
         raw LIST: the f32 of each raw 16.16 number\n\
+        narrow LIST: the f32 nearest to each f64\n\
         param LIST: the parametric curve of 1, 3, 4, 5 or 7 f32\n\
         compare LIST LIST: whether two lists of f32 are close\n\
         tag BYTES: keep the bytes as the tag\n\

@@ -46,6 +46,8 @@ pub enum TableRequest {
     Nudge,
     Invert,
     Monotonic,
+    Row,
+    LeastRow,
 }
 
 // Requests on floats.
@@ -85,6 +87,7 @@ pub enum FloatQuestion {
     LookupF32,
     Fixed8,
     Raw16,
+    Narrow,
 }
 
 fn plain_table(request: PlainTableRequest) -> Request {
@@ -127,12 +130,14 @@ fn plain_tag_request_named(word: &[u8]) -> Request {
 }
 
 fn table_request_named(word: &[u8]) -> Request {
-    match place_among(word, b"table start nudge invert monotonic ") {
+    match place_among(word, b"table start nudge invert monotonic row leastrow ") {
         0 => Request::Table(TableRequest::Hold),
         1 => Request::Table(TableRequest::Start),
         2 => Request::Table(TableRequest::Nudge),
         3 => Request::Table(TableRequest::Invert),
         4 => Request::Table(TableRequest::Monotonic),
+        5 => Request::Table(TableRequest::Row),
+        6 => Request::Table(TableRequest::LeastRow),
         _ => float_request_named(word),
     }
 }
@@ -169,11 +174,12 @@ fn whole_question_named(word: &[u8]) -> Request {
 }
 
 fn float_question_named(word: &[u8]) -> Request {
-    match place_among(word, b"dlookup flookup fixed8 raw ") {
+    match place_among(word, b"dlookup flookup fixed8 raw narrow ") {
         0 => float(FloatQuestion::LookupF64),
         1 => float(FloatQuestion::LookupF32),
         2 => float(FloatQuestion::Fixed8),
         3 => float(FloatQuestion::Raw16),
+        4 => float(FloatQuestion::Narrow),
         _ => other_request_named(word),
     }
 }

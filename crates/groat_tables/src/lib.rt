@@ -5,6 +5,7 @@ use groat_answers::put_done_of;
 use groat_answers::put_ok;
 use groat_answers::put_refused;
 use groat_answers::put_shorts;
+use groat_answers::put_wides;
 use groat_answers::put_yes_no;
 use groat_io::State;
 use groat_io::put_byte;
@@ -30,6 +31,7 @@ use monotonic::Direction;
 use monotonic::Monotonic;
 use table::Density;
 use table::Done;
+use table::Refusal;
 
 fn hold(codes: &[u64; 65537], n: usize, table: &mut [u16; 65537]) {
     let end = at_most(n, 65537);
@@ -153,6 +155,83 @@ fn invert(s: State, input: &mut [u8; 65535], output: &mut [u8; 65535], table: &[
     put_inverted(here, output, done, &out, m)
 }
 
+fn row_of_first(table: &[u16], positions: &[u16], n: usize, out: &mut [u16]) -> Done {
+    if n <= positions.len() {
+        if n <= out.len() {
+            return rows::lut_interp_linear16_row(table, &positions[0..n], &mut out[0..n]);
+        }
+    }
+    Done::Refused(Refusal::OutputLength)
+}
+
+fn row_of(table: &[u16], positions: &[u16; 65537], n: usize, out: &mut [u16; 65537]) -> Done {
+    row_of_first(table, positions, n, out)
+}
+
+// `row LIST`.
+fn row(s: State, input: &mut [u8; 65535], output: &mut [u8; 65535], table: &[u16]) -> State {
+    let mut codes = [0u64; 65537];
+    let read = last_items(s, input, Place::Short, &mut codes);
+    let here = read.s;
+    if !is_fine(here) {
+        return here;
+    }
+    let mut positions = [0u16; 65537];
+    let mut out = [0u16; 65537];
+    hold(&codes, read.n, &mut positions);
+    let done = row_of(table, &positions, read.n, &mut out);
+    put_inverted(here, output, done, &out, read.n)
+}
+
+fn least_of_first(table: &[u16], values: &[u16], n: usize, out: &mut [u32]) -> Done {
+    if n <= values.len() {
+        if n <= out.len() {
+            return least_row::least_input_row(table, &values[0..n], &mut out[0..n]);
+        }
+    }
+    Done::Refused(Refusal::OutputLength)
+}
+
+fn least_of(table: &[u16], values: &[u16; 65537], n: usize, out: &mut [u32; 65537]) -> Done {
+    least_of_first(table, values, n, out)
+}
+
+// The first n of the positions.
+fn found(out: &[u32], n: usize) -> &[u32] {
+    if n < out.len() {
+        return &out[0..n];
+    }
+    out
+}
+
+fn put_found(
+    s: State,
+    output: &mut [u8; 65535],
+    done: Done,
+    out: &[u32; 65537],
+    n: usize,
+) -> State {
+    match done {
+        Done::Yes => put_wides(s, output, found(out, n)),
+        Done::Refused(why) => put_refused(s, output, why),
+    }
+}
+
+// `leastrow LIST`.
+fn least_row(s: State, input: &mut [u8; 65535], output: &mut [u8; 65535], table: &[u16]) -> State {
+    let mut codes = [0u64; 65537];
+    let read = last_items(s, input, Place::Short, &mut codes);
+    let here = read.s;
+    if !is_fine(here) {
+        return here;
+    }
+    let mut values = [0u16; 65537];
+    let mut out = [0u32; 65537];
+    hold(&codes, read.n, &mut values);
+    let done = least_of(table, &values, read.n, &mut out);
+    put_found(here, output, done, &out, read.n)
+}
+
 fn put_monotonic(s: State, output: &mut [u8; 65535], table: &[u16], direction: Direction) -> State {
     match monotonic::is_curve_monotonic(table, direction) {
         Monotonic::Yes(count) => put_verdict(s, output, true, count),
@@ -201,6 +280,8 @@ pub fn answer(
         TableRequest::Nudge => nudge(s, input, output, table),
         TableRequest::Invert => invert(s, input, output, entries(table, s.table)),
         TableRequest::Monotonic => monotonic(s, input, output, entries(table, s.table)),
+        TableRequest::Row => row(s, input, output, entries(table, s.table)),
+        TableRequest::LeastRow => least_row(s, input, output, entries(table, s.table)),
     }
 }
 
