@@ -1,6 +1,46 @@
 //! Floats as bit patterns: every class, the neighbours of what matters, and the borders of a table's cells.
 
 use crate::generator::Generator;
+use std::fmt::{Display, Formatter, Result};
+
+/// A question or an entry, as groat reads it.
+#[derive(Clone, Copy)]
+pub struct Single(pub u32);
+
+impl Display for Single {
+    fn fmt(&self, f: &mut Formatter) -> Result {
+        write!(f, "{:08x}", self.0)
+    }
+}
+
+/// The same for an f64.
+#[derive(Clone, Copy)]
+pub struct Double(pub u64);
+
+impl Display for Double {
+    fn fmt(&self, f: &mut Formatter) -> Result {
+        write!(f, "{:016x}", self.0)
+    }
+}
+
+/// An answer, as groat writes it. All NaNs are one answer: the Rust leaves their bits open.
+#[derive(PartialEq)]
+pub struct Float(Option<u32>);
+
+impl Float {
+    pub fn of(answer: f32) -> Float {
+        Float(if answer.is_nan() { None } else { Some(answer.to_bits()) })
+    }
+}
+
+impl Display for Float {
+    fn fmt(&self, f: &mut Formatter) -> Result {
+        match self.0 {
+            Some(pattern) => write!(f, "{pattern:08x}"),
+            None => write!(f, "nan"),
+        }
+    }
+}
 
 const SIGN_32: u32 = 1 << 31;
 const SIGN_64: u64 = 1 << 63;
@@ -65,21 +105,16 @@ pub const CORNERS_64: [u64; 26] = [
     0x7ff8_0000_0000_0000,
 ];
 
-/// The bits of an answer: any NaN is written as one NaN, since the Rust leaves its bits open.
-pub fn bits(answer: f32) -> u32 {
-    if answer.is_nan() { f32::NAN.to_bits() & !SIGN_32 } else { answer.to_bits() }
-}
+const QUIET: u32 = 1 << 22;
 
 /// A NaN whose quiet bit is off.
 pub fn is_signalling(pattern: u32) -> bool {
     f32::from_bits(pattern).is_nan() && pattern & QUIET == 0
 }
 
-const QUIET: u32 = 1 << 22;
-
-/// The same NaN with its quiet bit on.
+/// The same number; of a NaN the one with its quiet bit on.
 pub fn quieted(pattern: u32) -> u32 {
-    pattern | QUIET
+    if is_signalling(pattern) { pattern | QUIET } else { pattern }
 }
 
 /// A pattern up to `reach` steps away from this one, in the order of patterns.
@@ -204,6 +239,12 @@ pub fn list_32(g: &mut Generator, length: usize) -> Vec<u32> {
         2 => (0..length).map(|_| any_32(g)).collect(),
         _ => (0..length).map(|_| finite_32(g)).collect(),
     }
+}
+
+/// A few levels, each held for a while.
+pub fn steps_32(g: &mut Generator, length: usize) -> Vec<u32> {
+    let levels: [u32; 6] = std::array::from_fn(|_| any_32(g));
+    (0..length).map(|i| levels[i * levels.len() / length]).collect()
 }
 
 /// A finite f32 of any size.

@@ -1,5 +1,5 @@
-//! Answers that are known from elsewhere: document 01's numbers, and corners found by other means. They show that the build
-//! is the one that it says it is, plain or fused, and that it panics where the Rust overflows.
+//! Answers that are known from elsewhere: document 01's numbers, and corners found by other means. They show that the
+//! build is the one that it says it is, plain or fused, and that it panics where the Rust overflows.
 
 use crate::ask::asked;
 

@@ -1,31 +1,26 @@
-//! The Rust half of the comparison: asks moxcms's own text many questions and writes its answers to a case file.
-//! README.md has the format and the commands.
+//! The Rust half of the comparison: asks moxcms's own text many questions, and writes them and what the library must
+//! answer as a transcript of groat. README.md has the commands.
 
 mod ask;
-mod cases;
-mod differences;
 mod floats;
 mod generator;
 mod known;
-mod layout;
-mod read;
 mod routines;
 mod rules;
-mod show;
-mod small;
+mod sessions;
 mod tables;
-mod tally;
+mod transcript;
 
-use cases::Cases;
 use std::process::ExitCode;
+use transcript::Transcript;
 
 const USAGE: &str = "\
-oracle CASES SEED OUTFILE         write about CASES answers
-oracle --small SEED OUTFILE       write a small list, with few long tables
-oracle --show FILE N [ROUTINE]    print the first N records, of all or of the routine with this number
-oracle --count FILE               count a file's answers by routine
-oracle --differences PLAIN FUSED  where two files of the same questions differ
-oracle --known                    compare with answers that are known";
+oracle CASES SEED    write a transcript of about CASES answers
+oracle --small SEED  write a short one, which has every kind of request and table
+oracle --known       compare with answers that are known";
+
+/// About how many answers the short one has.
+const SMALL: u64 = 16_000;
 
 fn main() -> ExitCode {
     ask::quiet_panics();
@@ -42,20 +37,10 @@ fn main() -> ExitCode {
 }
 
 fn run(words: &[&str]) -> Result<bool, String> {
-    match words {
-        ["--show", file, count] => show::show(file, number(count)?, None)?,
-        ["--show", file, count, routine] => show::show(file, number(count)?, Some(number(routine)?))?,
-        ["--count", file] => show::count(file)?,
-        ["--differences", plain, fused] => differences::differences(plain, fused)?,
+    match *words {
         ["--known"] => return Ok(known::known()),
-        ["--small", seed, file] => write(0, small::ANSWERS, number(seed)?, file)?,
-        [cases, seed, file] => {
-            let cases = number(cases)?;
-            if cases == 0 {
-                return Err("CASES is at least 1".into());
-            }
-            write(cases, cases, number(seed)?, file)?
-        }
+        ["--small", seed] => write(true, SMALL, number(seed)?),
+        [cases, seed] => write(false, number(cases)?, number(seed)?),
         _ => return Err(format!("usage:\n{USAGE}")),
     }
     Ok(true)
@@ -65,11 +50,12 @@ fn number(word: &str) -> Result<u64, String> {
     word.parse().map_err(|_| format!("{word} is not a number"))
 }
 
-/// Writes about this many answers. `said` is what the file's head says of them.
-fn write(said: u64, answers: u64, seed: u64, path: &str) -> Result<(), String> {
-    let trouble = |error: std::io::Error| format!("{path}: {error}");
-    let mut file = Cases::create(path, cfg!(fused), said, seed).map_err(trouble)?;
-    routines::write_all(&mut file, answers, seed);
-    file.finish().map_err(trouble)?.print();
-    Ok(())
+fn write(brief: bool, answers: u64, seed: u64) {
+    let mut t = Transcript::begin(brief);
+    let build = if cfg!(fused) { "fused" } else { "plain" };
+    let words = if brief { "--small".into() } else { answers.to_string() };
+    t.comment(&format!("What the Rust of moxcms 0.9.1 answers, {build} build, to {words} {seed} (oracle/README.md)."));
+    t.comment("`!N` in a list, and `refused N`, are the refusals of document 01; docs/GROAT.md is the language.");
+    sessions::write_all(&mut t, answers, seed);
+    t.end();
 }

@@ -19,7 +19,8 @@ pub const LARGE_LENGTHS: [usize; 8] = [65536, 32772, 32771, 32770, 65535, 32769,
 /// One entry more than a table may have.
 pub const TOO_LONG: usize = 65537;
 
-/// The short table of this number, below `SHORT_TABLES`. The numbers are spread, so that any run of them is a fair sample.
+/// The short table of this number, below `SHORT_TABLES`. The numbers are spread, so that any run of them is a fair
+/// sample.
 pub fn short_table(number: usize) -> Vec<u16> {
     let mut rest = number * 1009 % SHORT_TABLES;
     let mut length = 1;
@@ -37,11 +38,25 @@ pub fn short_table(number: usize) -> Vec<u16> {
     table
 }
 
-/// A random table of some shape, with runs at its ends more often than not.
-pub fn random_table(g: &mut Generator, length: usize) -> Vec<u16> {
-    const SHAPES: [fn(&mut Generator, usize) -> Vec<u16>; 10] =
-        [rising, rising, falling, neither, straight, square, steps, gentle, slipping, constant];
-    let shape = g.pick(&SHAPES);
+type Shape = fn(&mut Generator, usize) -> Vec<u16>;
+
+const SHAPES: [Shape; 11] =
+    [rising, ramps, falling, neither, straight, rising, square, steps, gentle, slipping, constant];
+
+/// Shapes that a list of a few items says, however long the table is.
+const BRIEF_SHAPES: [Shape; 4] = [ramps, gentle, steps, constant];
+
+/// A random table, of each shape in its turn, with runs at its ends more often than not.
+pub fn random_table(g: &mut Generator, turn: usize, length: usize) -> Vec<u16> {
+    with_runs(g, SHAPES[turn % SHAPES.len()], length)
+}
+
+/// The same, of a shape that few words say.
+pub fn brief_table(g: &mut Generator, turn: usize, length: usize) -> Vec<u16> {
+    with_runs(g, BRIEF_SHAPES[turn % BRIEF_SHAPES.len()], length)
+}
+
+fn with_runs(g: &mut Generator, shape: Shape, length: usize) -> Vec<u16> {
     let mut table = shape(g, length);
     if !g.once_in(3) {
         set_runs(g, &mut table);
@@ -77,6 +92,17 @@ fn square(_: &mut Generator, length: usize) -> Vec<u16> {
     (0..length).map(|i| (i * i * 65535 / (last * last)) as u16).collect()
 }
 
+/// Entries that rise one by one from some level, then from another.
+pub fn ramps(g: &mut Generator, length: usize) -> Vec<u16> {
+    let mut table = Vec::with_capacity(length);
+    while table.len() < length {
+        let held = g.between(1, 200).min(length - table.len());
+        let level = g.below(65536 - held) as u16;
+        table.extend(level..level + held as u16);
+    }
+    table
+}
+
 /// A few levels, each held for a while.
 fn steps(g: &mut Generator, length: usize) -> Vec<u16> {
     let count = g.between(1, 6);
@@ -85,7 +111,7 @@ fn steps(g: &mut Generator, length: usize) -> Vec<u16> {
 }
 
 /// Rising by so little that the inverse finds slopes below 0.01.
-fn gentle(g: &mut Generator, length: usize) -> Vec<u16> {
+pub fn gentle(g: &mut Generator, length: usize) -> Vec<u16> {
     let span = g.pick(&[3, 40, 700, 5000]);
     let base = g.pick(&[0, 1, 10, 30000, 65535 - span]);
     let mut table: Vec<u16> = (0..length).map(|_| (base + g.below(span + 1)) as u16).collect();
