@@ -1,6 +1,6 @@
 /* The counts, the lent buffers, and the list of subjects. */
 #define _DEFAULT_SOURCE
-#include "check.h"
+#include "asks.h"
 
 #include <stdio.h>
 #include <stdlib.h>
@@ -23,13 +23,18 @@ static struct lent lents[MOST];
 static size_t lent_count;
 static unsigned long expected, failed;
 
-void expect(bool holds, const char *what, const char *file, int line)
+void tally(bool holds)
 {
     expected++;
-    if (!holds) {
+    if (!holds)
         failed++;
+}
+
+void expect(bool holds, const char *what, const char *file, int line)
+{
+    tally(holds);
+    if (!holds)
         printf("%s:%d: not so: %s\n", file, line, what);
-    }
 }
 
 static void stop(const char *why)
@@ -144,6 +149,8 @@ void subject(const char *name, void (*run)(void))
     unsigned long before = expected, failed_before = failed;
     run();
     give_back();
+    if (expected == before)
+        failed++;
     printf("face: %s: %lu expectations, %lu failed\n", name, expected - before, failed - failed_before);
 }
 
@@ -176,11 +183,26 @@ void run_all(bool floats)
             subjects[i].run();
 }
 
-int main(void)
+static void by_hand(void)
 {
     for (size_t i = 0; i < SUBJECTS; i++)
         subject(subjects[i].name, subjects[i].run);
     environments();
+}
+
+/* No argument: what is written by hand. `sweeps`: the sweeps. `random COUNT SEED`: so many calls. */
+int main(int argc, char **argv)
+{
+    setvbuf(stdout, NULL, _IOLBF, BUFSIZ);
+    open_rooms();
+    if (argc == 1)
+        by_hand();
+    else if (argc == 2 && strcmp(argv[1], "sweeps") == 0)
+        sweeps();
+    else if (argc == 4 && strcmp(argv[1], "random") == 0)
+        at_random(strtoul(argv[2], NULL, 10), strtoull(argv[3], NULL, 10));
+    else
+        stop("usage: tests [sweeps | random COUNT SEED]");
     printf("face: %lu expectations, %lu failed\n", expected, failed);
     return failed == 0 ? 0 : 1;
 }

@@ -8,6 +8,9 @@
 void expect(bool holds, const char *what, const char *file, int line);
 #define EXPECT(holds) expect((holds), #holds, __FILE__, __LINE__)
 
+/* Counts one expectation, where the caller prints what does not hold. */
+void tally(bool holds);
+
 /*
  * Lends a buffer of `count` elements of `size` bytes, filled with a pattern. Guard words stand before it, and after it a page
  * that can be neither read nor written. Lending nothing gives a null pointer.
@@ -67,7 +70,10 @@ void rounded(void);
 void verdicts(void);
 void version(void);
 
-/* Runs a subject, gives its buffers back, and prints how many expectations it had and how many failed. */
+/*
+ * Runs a subject, gives its buffers back, and prints how many expectations it had and how many failed. A subject that
+ * expects nothing has failed.
+ */
 void subject(const char *name, void (*run)(void));
 
 /* Runs every subject whose calls work in floats, or every other one. */

@@ -1,0 +1,599 @@
+/* The rooms that are lent from, the reports, and one question of each export. */
+#define _GNU_SOURCE
+#include "asks.h"
+#include "reference.h"
+
+#include <inttypes.h>
+#include <signal.h>
+#include <stdio.h>
+#include <stdlib.h>
+#include <string.h>
+#include <sys/mman.h>
+#include <unistd.h>
+
+enum { PAGE = 4096, GUARD = 64, SHOWN = 44 };
+
+static const size_t room_bytes[PLACES] = {
+    [FIRST] = PAGE, [SECOND] = PAGE, [OUT] = PAGE,
+    [LONG_FIRST] = 2 * LONGEST + PAGE, [LONG_SECOND] = 2 * LONGEST + PAGE,
+    [LONG_FLOATS] = 4 * LONGEST + PAGE, [LONG_OUT] = 4 * LONGEST + PAGE,
+};
+static struct {
+    unsigned char *write, *read;
+} rooms[PLACES];
+
+/* What the reference writes. */
+static void *wanted;
+
+unsigned long asked[ASK_COUNT];
+unsigned given[ASK_COUNT];
+#define AS_NAME(name, numbers) "bg_" #name,
+const char *const export_names[ASK_COUNT] = {EXPORTS(AS_NAME)};
+#define AS_NUMBERS(name, numbers) numbers,
+const unsigned may_give[ASK_COUNT] = {EXPORTS(AS_NUMBERS)};
+
+/* The call that is being made: its buffers, and its other arguments, floats as their bits. */
+static struct {
+    enum export export;
+    const buffer *buffers[3];
+    uint64_t numbers[8];
+    size_t number_count;
+    unsigned long call;
+} now;
+
+static uint64_t state;
+
+void seed(uint64_t from)
+{
+    state = from != 0 ? from : 1;
+}
+
+uint64_t word(void)
+{
+    state ^= state << 13;
+    state ^= state >> 7;
+    state ^= state << 17;
+    return state;
+}
+
+size_t below(size_t limit)
+{
+    return (size_t)((word() >> 16) % limit);
+}
+
+/* ---- Rooms ---- */
+
+static unsigned char *map(int file, size_t bytes, int protection)
+{
+    unsigned char *shut = mmap(NULL, bytes + 2 * PAGE, PROT_NONE, MAP_PRIVATE | MAP_ANONYMOUS, -1, 0);
+    if (shut == MAP_FAILED || mmap(shut + PAGE, bytes, protection, MAP_SHARED | MAP_FIXED, file, 0) == MAP_FAILED) {
+        fprintf(stderr, "face: no memory\n");
+        exit(2);
+    }
+    return shut + PAGE;
+}
+
+buffer lent(enum place place, size_t count, size_t size)
+{
+    size_t room = room_bytes[place], bytes = count * size, gap = below(2) == 0 ? 0 : below(32) * size;
+    buffer b = {NULL, NULL, count, size, place};
+    size_t at = below(2) == 0 ? gap : room - bytes - gap;
+    if (count > 0 || below(2) == 0) {
+        if (count == 0)
+            at = room;
+        b.write = rooms[place].write + at;
+        b.read = rooms[place].read + at;
+    }
+    return b;
+}
+
+buffer lent_copy(enum place place, const void *from, size_t count, size_t size)
+{
+    buffer b = lent(place, count, size);
+    if (count > 0)
+        memcpy(b.write, from, count * size);
+    return b;
+}
+
+/* ---- Reports ---- */
+
+static void show_buffer(const buffer *b)
+{
+    printf(" [%zu:", b->count);
+    for (size_t i = 0; i < b->count && i < SHOWN; i++) {
+        uint32_t x = 0;
+        memcpy(&x, b->read + i * b->size, b->size);
+        printf(" %0*" PRIx32, (int)(2 * b->size), x);
+    }
+    printf(b->count > SHOWN ? " ..]" : "]");
+}
+
+/* The call, so that it can be made again: its export, the first elements of each buffer, and the other arguments. */
+static void show_call(void)
+{
+    printf("face: %s, call %lu:", export_names[now.export], now.call);
+    for (size_t i = 0; i < 3 && now.buffers[i] != NULL; i++)
+        show_buffer(now.buffers[i]);
+    for (size_t i = 0; i < now.number_count; i++)
+        printf(" 0x%" PRIx64, now.numbers[i]);
+}
+
+/* Whether another report is wanted: a wrong export would give thousands. */
+static bool report(void)
+{
+    static unsigned long reports[ASK_COUNT];
+    return ++reports[now.export] <= 5;
+}
+
+static void show_numbers(const char *whose, const uint64_t *numbers, size_t count)
+{
+    printf("%s", whose);
+    for (size_t i = 0; i < count; i++)
+        printf(" 0x%" PRIx64, numbers[i]);
+}
+
+/* Holds an answer, place by place; the first is the number of the refusal. */
+static void hold(const uint64_t *got, const uint64_t *want, size_t count)
+{
+    bool same = memcmp(got, want, count * sizeof *got) == 0;
+    tally(same);
+    given[now.export] |= 1u << want[0];
+    if (!same && report()) {
+        show_call();
+        show_numbers(" answers", got, count);
+        show_numbers(", should be", want, count);
+        printf("\n");
+    }
+}
+
+/* Something was read or written that was not lent for it. */
+static void fault(int signal, siginfo_t *info, void *context)
+{
+    const unsigned char *at = info->si_addr;
+    (void)signal;
+    (void)context;
+    show_call();
+    printf(" reads or writes what it should not");
+    for (size_t i = 0; i < 3 && now.buffers[i] != NULL; i++) {
+        const buffer *b = now.buffers[i];
+        for (const unsigned char *from = b->read; from != NULL; from = from == b->read ? b->write : NULL) {
+            if (at >= from && at < from + b->count * b->size)
+                printf(", byte %td of buffer %zu", at - from, i + 1);
+            else if (at >= from - PAGE && at < from + b->count * b->size + PAGE)
+                printf(", %td bytes from the start of buffer %zu", at - from, i + 1);
+        }
+    }
+    printf("\nface: stopped\n");
+    fflush(stdout);
+    _exit(1);
+}
+
+void open_rooms(void)
+{
+    struct sigaction action;
+    wanted = malloc(4 * LONGEST);
+    for (size_t i = 0; i < PLACES; i++) {
+        int file = memfd_create("room", 0);
+        if (wanted == NULL || file < 0 || ftruncate(file, (off_t)room_bytes[i]) != 0) {
+            fprintf(stderr, "face: no memory\n");
+            exit(2);
+        }
+        rooms[i].write = map(file, room_bytes[i], PROT_READ | PROT_WRITE);
+        rooms[i].read = map(file, room_bytes[i], PROT_READ);
+        close(file);
+    }
+    memset(&action, 0, sizeof action);
+    action.sa_sigaction = fault;
+    action.sa_flags = SA_SIGINFO;
+    sigaction(SIGSEGV, &action, NULL);
+    sigaction(SIGBUS, &action, NULL);
+}
+
+/* ---- Outputs ---- */
+
+static unsigned char filler;
+
+/* Where the guard bytes of a buffer begin and end: 64 on both sides, or as many as the room has. */
+static unsigned char *guards_from(const buffer *b)
+{
+    unsigned char *room = rooms[b->place].write;
+    return b->write - room < GUARD ? room : b->write - GUARD;
+}
+
+static unsigned char *guards_to(const buffer *b)
+{
+    unsigned char *end = rooms[b->place].write + room_bytes[b->place], *to = b->write + b->count * b->size;
+    return end - to < GUARD ? end : to + GUARD;
+}
+
+/* What a call is lent to write: filled and writable, or read-only where the call is to be refused. */
+static void *ready(const buffer *b, uint32_t refusal)
+{
+    if (refusal != 0 || b->write == NULL)
+        return (void *)(uintptr_t)b->read;
+    filler = (unsigned char)(filler + 0x35);
+    memset(guards_from(b), filler, (size_t)(guards_to(b) - guards_from(b)));
+    return b->write;
+}
+
+/* The same for a buffer that is changed: what it holds stays, and only the bytes about it are filled. */
+static void *ready_changed(const buffer *b, uint32_t refusal)
+{
+    if (refusal != 0 || b->write == NULL)
+        return (void *)(uintptr_t)b->read;
+    memset(guards_from(b), filler, (size_t)(b->write - guards_from(b)));
+    memset(b->write + b->count * b->size, filler, (size_t)(guards_to(b) - (b->write + b->count * b->size)));
+    return b->write;
+}
+
+static bool filled(const unsigned char *from, const unsigned char *to)
+{
+    while (from < to && *from == filler)
+        from++;
+    return from == to;
+}
+
+/* Holds what a granted call wrote to what the reference did, and the bytes about it to what they were. */
+static void wrote(const buffer *b, uint32_t refusal)
+{
+    const unsigned char *want = wanted;
+    size_t bytes = b->count * b->size, i = 0;
+    bool same, kept;
+    if (refusal != 0 || b->write == NULL)
+        return;
+    same = memcmp(b->write, want, bytes) == 0;
+    kept = filled(guards_from(b), b->write) && filled(b->write + bytes, guards_to(b));
+    tally(same && kept);
+    if ((same && kept) || !report())
+        return;
+    show_call();
+    if (!kept)
+        printf(" writes beside its output\n");
+    else {
+        uint32_t x = 0, y = 0;
+        while (memcmp(b->write + i, want + i, b->size) == 0)
+            i += b->size;
+        memcpy(&x, b->write + i, b->size);
+        memcpy(&y, want + i, b->size);
+        printf(" writes 0x%" PRIx32 " at %zu, should be 0x%" PRIx32 "\n", x, i / b->size, y);
+    }
+}
+
+/* ---- Answers as lists of numbers ---- */
+
+/* A float's bits; a NaN among the answers may have any. */
+static uint64_t number_of(float x)
+{
+    return x != x ? 0x7fc00000 : bits_of(x);
+}
+
+static uint64_t double_bits(double x)
+{
+    uint64_t bits;
+    memcpy(&bits, &x, sizeof bits);
+    return bits;
+}
+
+static void hold_sample(bg_sample g, bg_sample w)
+{
+    hold((const uint64_t[]){g.refusal, g.density.value}, (const uint64_t[]){w.refusal, w.density.value}, 2);
+}
+
+static void hold_position(bg_position g, bg_position w)
+{
+    hold((const uint64_t[]){g.refusal, g.drive.value}, (const uint64_t[]){w.refusal, w.drive.value}, 2);
+}
+
+static void hold_real(bg_real g, bg_real w)
+{
+    hold((const uint64_t[]){g.refusal, number_of(g.value)}, (const uint64_t[]){w.refusal, number_of(w.value)}, 2);
+}
+
+/* An answer that is the number of the refusal alone. */
+static void hold_done(uint32_t g, uint32_t w)
+{
+    hold((const uint64_t[]){g}, (const uint64_t[]){w}, 1);
+}
+
+/* An answer that no refusal goes with. */
+static void hold_plain(uint64_t g, uint64_t w)
+{
+    hold((const uint64_t[]){0, g}, (const uint64_t[]){0, w}, 2);
+}
+
+static void put_curve(uint64_t *to, bg_parametric p)
+{
+    const float places[7] = {p.curve.g, p.curve.a, p.curve.b, p.curve.c, p.curve.d, p.curve.e, p.curve.f};
+    to[0] = p.refusal;
+    for (size_t k = 0; k < 7; k++)
+        to[k + 1] = number_of(places[k]);
+}
+
+static void hold_curve(bg_parametric g, bg_parametric w)
+{
+    uint64_t got[8], want[8];
+    put_curve(got, g);
+    put_curve(want, w);
+    hold(got, want, 8);
+}
+
+static void put_para(uint64_t *to, bg_para p)
+{
+    const int32_t places[7] = {p.numbers.g, p.numbers.a, p.numbers.b, p.numbers.c, p.numbers.d, p.numbers.e, p.numbers.f};
+    to[0] = p.refusal;
+    to[1] = p.count;
+    for (size_t k = 0; k < 7; k++)
+        to[k + 2] = (uint32_t)places[k];
+}
+
+/* ---- The questions ---- */
+
+/* Says which call comes now. */
+static void at(enum export export, const buffer *a, const buffer *b, const buffer *c)
+{
+    now.export = export;
+    now.buffers[0] = a;
+    now.buffers[1] = b;
+    now.buffers[2] = c;
+    now.number_count = 0;
+    now.call = ++asked[export];
+}
+
+static void with(uint64_t number)
+{
+    now.numbers[now.number_count++] = number;
+}
+
+#define U16(b) ((const uint16_t *)(const void *)(b).read)
+#define F32(b) ((const float *)(const void *)(b).read)
+
+void ask_version(void)
+{
+    at(ASK_version, NULL, NULL, NULL);
+    hold_plain(bg_version(), ref_version());
+}
+
+void ask_lut_interp_linear16(buffer table, uint16_t position)
+{
+    at(ASK_lut_interp_linear16, &table, NULL, NULL);
+    with(position);
+    hold_sample(bg_lut_interp_linear16(U16(table), table.count, drive(position)),
+                ref_lut_interp_linear16(U16(table), table.count, drive(position)));
+}
+
+void ask_lut_interp_linear16_row(buffer table, buffer positions, buffer out)
+{
+    uint32_t want = ref_lut_interp_linear16_row(U16(table), table.count, U16(positions), positions.count,
+                                                wanted, out.count);
+    at(ASK_lut_interp_linear16_row, &table, &positions, &out);
+    hold_done(bg_lut_interp_linear16_row(U16(table), table.count, U16(positions), positions.count, ready(&out, want),
+                                         out.count), want);
+    wrote(&out, want);
+}
+
+void ask_bake(buffer table, buffer out)
+{
+    uint32_t want = ref_bake(U16(table), table.count, wanted, out.count);
+    at(ASK_bake, &table, &out, NULL);
+    hold_done(bg_bake(U16(table), table.count, ready(&out, want), out.count), want);
+    wrote(&out, want);
+}
+
+void ask_lut_interp_linear_gamma_impl(buffer table, size_t inputs, size_t depth, size_t input)
+{
+    bg_code w = ref_lut_interp_linear_gamma_impl(U16(table), table.count, inputs, depth, input), g;
+    at(ASK_lut_interp_linear_gamma_impl, &table, NULL, NULL);
+    with(inputs);
+    with(depth);
+    with(input);
+    g = bg_lut_interp_linear_gamma_impl(U16(table), table.count, inputs, depth, input);
+    hold((const uint64_t[]){g.refusal, g.code}, (const uint64_t[]){w.refusal, w.code}, 2);
+}
+
+void ask_start(buffer table)
+{
+    uint32_t want = ref_start(wanted, table.count);
+    at(ASK_start, &table, NULL, NULL);
+    hold_done(bg_start(ready(&table, want), table.count), want);
+    wrote(&table, want);
+}
+
+void ask_accept(buffer table)
+{
+    at(ASK_accept, &table, NULL, NULL);
+    hold_done(bg_accept(U16(table), table.count), ref_accept(U16(table), table.count));
+}
+
+void ask_nudge(buffer table, size_t index, uint16_t value)
+{
+    uint32_t want;
+    if (table.count > 0)
+        memcpy(wanted, table.read, table.count * table.size);
+    want = ref_nudge(wanted, table.count, index, density(value));
+    at(ASK_nudge, &table, NULL, NULL);
+    with(index);
+    with(value);
+    hold_done(bg_nudge(ready_changed(&table, want), table.count, index, density(value)), want);
+    wrote(&table, want);
+}
+
+void ask_least_input(buffer table, uint16_t value)
+{
+    at(ASK_least_input, &table, NULL, NULL);
+    with(value);
+    hold_position(bg_least_input(U16(table), table.count, density(value)),
+                  ref_least_input(U16(table), table.count, density(value)));
+}
+
+void ask_least_input_row(buffer table, buffer densities, buffer out)
+{
+    uint32_t want = ref_least_input_row(U16(table), table.count, U16(densities), densities.count, wanted, out.count);
+    at(ASK_least_input_row, &table, &densities, &out);
+    hold_done(bg_least_input_row(U16(table), table.count, U16(densities), densities.count, ready(&out, want), out.count),
+              want);
+    wrote(&out, want);
+}
+
+void ask_lut_inverse_interp16(buffer table, uint16_t value)
+{
+    at(ASK_lut_inverse_interp16, &table, NULL, NULL);
+    with(value);
+    hold_position(bg_lut_inverse_interp16(U16(table), table.count, density(value)),
+                  ref_lut_inverse_interp16(U16(table), table.count, density(value)));
+}
+
+void ask_invert_lut(buffer table, buffer out)
+{
+    uint32_t want = ref_invert_lut(U16(table), table.count, wanted, out.count);
+    at(ASK_invert_lut, &table, &out, NULL);
+    hold_done(bg_invert_lut(U16(table), table.count, ready(&out, want), out.count), want);
+    wrote(&out, want);
+}
+
+void ask_lut_interp_linear_float(buffer table, float x)
+{
+    at(ASK_lut_interp_linear_float, &table, NULL, NULL);
+    with(bits_of(x));
+    hold_real(bg_lut_interp_linear_float(F32(table), table.count, x),
+              ref_lut_interp_linear_float(F32(table), table.count, x));
+}
+
+void ask_lut_interp_linear(buffer table, double x)
+{
+    at(ASK_lut_interp_linear, &table, NULL, NULL);
+    with(double_bits(x));
+    hold_real(bg_lut_interp_linear(U16(table), table.count, x), ref_lut_interp_linear(U16(table), table.count, x));
+}
+
+void ask_passthrough_table_impl(buffer out)
+{
+    uint32_t want = ref_passthrough_table_impl(wanted, out.count);
+    at(ASK_passthrough_table_impl, &out, NULL, NULL);
+    hold_done(bg_passthrough_table_impl(ready(&out, want), out.count), want);
+    wrote(&out, want);
+}
+
+void ask_nearest_f64_to_f32(double x)
+{
+    at(ASK_nearest_f64_to_f32, NULL, NULL, NULL);
+    with(double_bits(x));
+    hold_plain(number_of(bg_nearest_f64_to_f32(x)), number_of(ref_nearest_f64_to_f32(x)));
+}
+
+void ask_u8_fixed_8number_to_float(uint16_t x)
+{
+    at(ASK_u8_fixed_8number_to_float, NULL, NULL, NULL);
+    with(x);
+    hold_plain(number_of(bg_u8_fixed_8number_to_float(x)), number_of(ref_u8_fixed_8number_to_float(x)));
+}
+
+void ask_s15_fixed16_number_to_float(int32_t x)
+{
+    at(ASK_s15_fixed16_number_to_float, NULL, NULL, NULL);
+    with((uint32_t)x);
+    hold_plain(number_of(bg_s15_fixed16_number_to_float(x)), number_of(ref_s15_fixed16_number_to_float(x)));
+}
+
+void ask_parametric_curve_new(buffer params)
+{
+    at(ASK_parametric_curve_new, &params, NULL, NULL);
+    hold_curve(bg_parametric_curve_new(F32(params), params.count), ref_parametric_curve_new(F32(params), params.count));
+}
+
+void ask_compare_parametric(buffer src, buffer dst)
+{
+    at(ASK_compare_parametric, &src, &dst, NULL);
+    hold_plain(bg_compare_parametric(F32(src), src.count, F32(dst), dst.count),
+               ref_compare_parametric(F32(src), src.count, F32(dst), dst.count));
+}
+
+void ask_is_curve_monotonic(buffer table, bool rising)
+{
+    bg_monotony w = ref_is_curve_monotonic(U16(table), table.count, rising), g;
+    at(ASK_is_curve_monotonic, &table, NULL, NULL);
+    with(rising);
+    g = bg_is_curve_monotonic(U16(table), table.count, rising);
+    hold((const uint64_t[]){g.refusal, g.yes, g.violations}, (const uint64_t[]){w.refusal, w.yes, w.violations}, 3);
+}
+
+void ask_is_curve_degenerated(buffer table)
+{
+    bg_degeneration w = ref_is_curve_degenerated(U16(table), table.count), g;
+    at(ASK_is_curve_degenerated, &table, NULL, NULL);
+    g = bg_is_curve_degenerated(U16(table), table.count);
+    hold((const uint64_t[]){g.refusal, g.yes}, (const uint64_t[]){w.refusal, w.yes}, 2);
+}
+
+void ask_house_entry(size_t index)
+{
+    at(ASK_house_entry, NULL, NULL, NULL);
+    with(index);
+    hold_sample(bg_house_entry(index), ref_house_entry(index));
+}
+
+void ask_house_fill(buffer out)
+{
+    uint32_t want = ref_house_fill(wanted, out.count);
+    at(ASK_house_fill, &out, NULL, NULL);
+    hold_done(bg_house_fill(ready(&out, want), out.count), want);
+    wrote(&out, want);
+}
+
+void ask_curv_count(buffer tag)
+{
+    bg_count w = ref_curv_count(tag.read, tag.count), g;
+    at(ASK_curv_count, &tag, NULL, NULL);
+    g = bg_curv_count(tag.read, tag.count);
+    hold((const uint64_t[]){g.refusal, g.entries}, (const uint64_t[]){w.refusal, w.entries}, 2);
+}
+
+void ask_curv_read(buffer tag, buffer out)
+{
+    uint32_t want = ref_curv_read(tag.read, tag.count, wanted, out.count);
+    at(ASK_curv_read, &tag, &out, NULL);
+    hold_done(bg_curv_read(tag.read, tag.count, ready(&out, want), out.count), want);
+    wrote(&out, want);
+}
+
+void ask_curv_part(buffer tag)
+{
+    bg_part w = ref_curv_part(tag.read, tag.count), g;
+    at(ASK_curv_part, &tag, NULL, NULL);
+    g = bg_curv_part(tag.read, tag.count);
+    hold((const uint64_t[]){g.refusal, g.start, g.len}, (const uint64_t[]){w.refusal, w.start, w.len}, 3);
+}
+
+void ask_curv_write(buffer table, buffer out)
+{
+    uint32_t want = ref_curv_write(U16(table), table.count, wanted, out.count);
+    at(ASK_curv_write, &table, &out, NULL);
+    hold_done(bg_curv_write(U16(table), table.count, ready(&out, want), out.count), want);
+    wrote(&out, want);
+}
+
+void ask_para_read(buffer tag)
+{
+    uint64_t got[9], want[9];
+    at(ASK_para_read, &tag, NULL, NULL);
+    put_para(want, ref_para_read(tag.read, tag.count));
+    put_para(got, bg_para_read(tag.read, tag.count));
+    hold(got, want, 9);
+}
+
+void ask_para_curve(buffer tag)
+{
+    at(ASK_para_curve, &tag, NULL, NULL);
+    hold_curve(bg_para_curve(tag.read, tag.count), ref_para_curve(tag.read, tag.count));
+}
+
+void ask_para_write(size_t function_type, const int32_t *raw, buffer out)
+{
+    bg_raw numbers = {raw[0], raw[1], raw[2], raw[3], raw[4], raw[5], raw[6]};
+    uint32_t want = ref_para_write(function_type, numbers, wanted, out.count);
+    at(ASK_para_write, &out, NULL, NULL);
+    with(function_type);
+    for (size_t k = 0; k < 7; k++)
+        with((uint32_t)raw[k]);
+    hold_done(bg_para_write(function_type, numbers, ready(&out, want), out.count), want);
+    wrote(&out, want);
+}

@@ -1,0 +1,123 @@
+/*
+ * Each export asked with any input and held to the reference: what it answers, what it writes, and that it touches nothing
+ * else. A difference is printed with the export, its input and both answers.
+ */
+#ifndef ASKS_H
+#define ASKS_H
+
+#include "check.h"
+
+/* The exports, each with the numbers that it may give: 0, granted, and its refusals. */
+#define EXPORTS(X) \
+    X(version, 1 << 0) \
+    X(lut_interp_linear16, 1 << 0 | 1 << 1) \
+    X(lut_interp_linear16_row, 1 << 0 | 1 << 1 | 1 << 6) \
+    X(bake, 1 << 0 | 1 << 1 | 1 << 6) \
+    X(lut_interp_linear_gamma_impl, 1 << 0 | 1 << 1 | 1 << 12 | 1 << 3) \
+    X(start, 1 << 0 | 1 << 1) \
+    X(accept, 1 << 0 | 1 << 1 | 1 << 2) \
+    X(nudge, 1 << 0 | 1 << 1 | 1 << 3 | 1 << 2 | 1 << 4) \
+    X(least_input, 1 << 0 | 1 << 1 | 1 << 2 | 1 << 5) \
+    X(least_input_row, 1 << 0 | 1 << 1 | 1 << 6 | 1 << 2) \
+    X(lut_inverse_interp16, 1 << 0 | 1 << 1) \
+    X(invert_lut, 1 << 0 | 1 << 1 | 1 << 12) \
+    X(lut_interp_linear_float, 1 << 0 | 1 << 1) \
+    X(lut_interp_linear, 1 << 0 | 1 << 1 | 1 << 13) \
+    X(passthrough_table_impl, 1 << 0 | 1 << 12) \
+    X(nearest_f64_to_f32, 1 << 0) \
+    X(u8_fixed_8number_to_float, 1 << 0) \
+    X(s15_fixed16_number_to_float, 1 << 0) \
+    X(parametric_curve_new, 1 << 0 | 1 << 7) \
+    X(compare_parametric, 1 << 0) \
+    X(is_curve_monotonic, 1 << 0 | 1 << 1) \
+    X(is_curve_degenerated, 1 << 0 | 1 << 1) \
+    X(house_entry, 1 << 0 | 1 << 3) \
+    X(house_fill, 1 << 0 | 1 << 6) \
+    X(curv_count, 1 << 0 | 1 << 8 | 1 << 9 | 1 << 10 | 1 << 1) \
+    X(curv_read, 1 << 0 | 1 << 8 | 1 << 9 | 1 << 10 | 1 << 1 | 1 << 6) \
+    X(curv_part, 1 << 0 | 1 << 8 | 1 << 9 | 1 << 10 | 1 << 1) \
+    X(curv_write, 1 << 0 | 1 << 1 | 1 << 6) \
+    X(para_read, 1 << 0 | 1 << 8 | 1 << 9 | 1 << 10 | 1 << 11) \
+    X(para_curve, 1 << 0 | 1 << 8 | 1 << 9 | 1 << 10 | 1 << 11) \
+    X(para_write, 1 << 0 | 1 << 11 | 1 << 6)
+
+#define AS_ID(name, numbers) ASK_##name,
+enum export { EXPORTS(AS_ID) ASK_COUNT };
+
+/* A generator that runs through every word but 0, and a number below a limit from it. */
+void seed(uint64_t from);
+uint64_t word(void);
+size_t below(size_t limit);
+
+/*
+ * The rooms to lend from, each between two shut pages: two for short inputs and one for a short output, and the same for
+ * as many as a million elements. Each is mapped twice: by `write` it is filled, and `read`, where nothing can be written,
+ * is what a call is lent that should only read.
+ */
+enum place { FIRST, SECOND, OUT, LONG_FIRST, LONG_SECOND, LONG_FLOATS, LONG_OUT, PLACES };
+enum { LONGEST = 1 << 20 };
+
+/* A buffer lent from a room: `count` elements of `size` bytes. */
+typedef struct {
+    unsigned char *write;
+    const unsigned char *read;
+    size_t count, size;
+    enum place place;
+} buffer;
+
+/*
+ * Lends what stands in the room. It begins where the room does or ends where it does, or up to 31 elements from there, as
+ * the generator has it; nothing is lent as a null pointer or as a pointer to no byte that can be read.
+ */
+buffer lent(enum place place, size_t count, size_t size);
+
+/* Lends what is given. */
+buffer lent_copy(enum place place, const void *from, size_t count, size_t size);
+
+/* Makes the rooms, and has a fault printed with the call that made it. */
+void open_rooms(void);
+
+/* One question of each export. A refused call is lent its output read-only. */
+void ask_version(void);
+void ask_lut_interp_linear16(buffer table, uint16_t position);
+void ask_lut_interp_linear16_row(buffer table, buffer positions, buffer out);
+void ask_bake(buffer table, buffer out);
+void ask_lut_interp_linear_gamma_impl(buffer table, size_t inputs, size_t depth, size_t input);
+void ask_start(buffer table);
+void ask_accept(buffer table);
+void ask_nudge(buffer table, size_t index, uint16_t density);
+void ask_least_input(buffer table, uint16_t density);
+void ask_least_input_row(buffer table, buffer densities, buffer out);
+void ask_lut_inverse_interp16(buffer table, uint16_t density);
+void ask_invert_lut(buffer table, buffer out);
+void ask_lut_interp_linear_float(buffer table, float x);
+void ask_lut_interp_linear(buffer table, double x);
+void ask_passthrough_table_impl(buffer out);
+void ask_nearest_f64_to_f32(double x);
+void ask_u8_fixed_8number_to_float(uint16_t x);
+void ask_s15_fixed16_number_to_float(int32_t x);
+void ask_parametric_curve_new(buffer params);
+void ask_compare_parametric(buffer src, buffer dst);
+void ask_is_curve_monotonic(buffer table, bool rising);
+void ask_is_curve_degenerated(buffer table);
+void ask_house_entry(size_t index);
+void ask_house_fill(buffer out);
+void ask_curv_count(buffer tag);
+void ask_curv_read(buffer tag, buffer out);
+void ask_curv_part(buffer tag);
+void ask_curv_write(buffer table, buffer out);
+void ask_para_read(buffer tag);
+void ask_para_curve(buffer tag);
+void ask_para_write(size_t function_type, const int32_t *raw, buffer out);
+
+/* How often each export was asked, and which numbers it should have given. */
+extern unsigned long asked[ASK_COUNT];
+extern unsigned given[ASK_COUNT];
+extern const char *const export_names[ASK_COUNT];
+extern const unsigned may_give[ASK_COUNT];
+
+/* Both are run by an argument: "sweeps", and "random COUNT SEED". */
+void sweeps(void);
+void at_random(unsigned long count, uint64_t from);
+
+#endif

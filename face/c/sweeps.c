@@ -1,0 +1,448 @@
+/*
+ * Sweeps: every ICC layout, each byte of each short tag changed in every way, every length about a tag's own, counts at
+ * their limits, tags and calls that are wrong in two ways, and numbers rounded to float against C's own cast.
+ */
+#include "asks.h"
+
+#include <string.h>
+
+/* ---- The tags ---- */
+
+/* Tags of each layout, byte by byte as ICC.1 has them, and the curves of the para tags as bits, worked out by fractions. */
+struct tag {
+    size_t len;
+    uint8_t bytes[40];
+    uint32_t curve[7];
+};
+
+static const struct tag curvs[] = {
+    {12, "curv\0\0\0\0\0\0\0\0", {0}},
+    {14, "curv\0\0\0\0\0\0\0\1\x02\x33", {0}},
+    {16, "curv\0\0\0\0\0\0\0\2\x00\x01\xfe\x80", {0}},
+};
+
+static const struct tag paras[] = {
+    /* g = 2.2, nearly */
+    {16, "para\0\0\0\0\0\0\0\0\x00\x02\x33\x33", {0x400cccc0, 0x3f800000, 0, 0, 0, 0, 0}},
+    /* g = 2, a = 1.5, b = 0.75 */
+    {24, "para\0\0\0\0\0\1\0\0\x00\x02\x00\x00\x00\x01\x80\x00\x00\x00\xc0\x00",
+     {0x40000000, 0x3fc00000, 0x3f400000, 0, 0xbf000000, 0, 0}},
+    /* g = 1.8, nearly, a = -1, b = 0.5, c = -0.25 */
+    {28, "para\0\0\0\0\0\2\0\0\x00\x01\xcc\xcd\xff\xff\x00\x00\x00\x00\x80\x00\xff\xff\xc0\x00",
+     {0x3fe66680, 0xbf800000, 0x3f000000, 0, 0x3f000000, 0xbe800000, 0xbe800000}},
+    /* the sRGB curve as profiles have it */
+    {32, "para\0\0\0\0\0\3\0\0\x00\x02\x66\x66\x00\x00\xf2\xa7\x00\x00\x0d\x59\x00\x00\x13\xd0\x00\x00\x0a\x5b",
+     {0x40199980, 0x3f72a700, 0x3d559000, 0x3d9e8000, 0x3d25b000, 0, 0}},
+    /* one, the largest number, the smallest, two halfway between two floats, the one below 0, and one more halfway */
+    {40, "para\0\0\0\0\0\4\0\0\x00\x01\x00\x00\x7f\xff\xff\xff\x80\x00\x00\x00"
+         "\x01\x00\x00\x01\x01\x00\x00\x03\xff\xff\xff\xff\xfe\xff\xff\xfd",
+     {0x3f800000, 0x47000000, 0xc7000000, 0x43800000, 0x43800002, 0xb7800000, 0xc3800002}},
+    /* d = -b/a where the quotient is rounded, where b is 0, where a is 0, and where both are: a NaN */
+    {24, "para\0\0\0\0\0\1\0\0\x00\x01\x00\x00\x00\x00\xf2\xa7\x00\x00\x0d\x59",
+     {0x3f800000, 0x3f72a700, 0x3d559000, 0, 0xbd614f5c, 0, 0}},
+    {24, "para\0\0\0\0\0\1\0\0\x00\x01\x00\x00\x00\x01\x00\x00\x00\x00\x00\x00",
+     {0x3f800000, 0x3f800000, 0, 0, 0x80000000, 0, 0}},
+    {24, "para\0\0\0\0\0\1\0\0\x00\x01\x00\x00\x00\x00\x00\x00\x00\x01\x00\x00",
+     {0x3f800000, 0, 0x3f800000, 0, 0xff800000, 0, 0}},
+    {24, "para\0\0\0\0\0\1\0\0\x00\x01\x00\x00\x00\x00\x00\x00\x00\x00\x00\x00",
+     {0x3f800000, 0, 0, 0, 0x7fc00000, 0, 0}},
+};
+enum { CURVS = 3, TYPES = 5, PARAS = sizeof paras / sizeof *paras };
+
+static const size_t most_bytes = 12 + 2 * 65536;
+
+/* The curv tag of 65,536 entries, each its own index, and four zeros after it, as a padded tag has them. */
+static const uint8_t *most(void)
+{
+    static uint8_t bytes[12 + 2 * 65536 + 4] = "curv\0\0\0\0\0\1\0\0";
+    for (size_t i = bytes[most_bytes - 1] == 0 ? 0 : 65536; i < 65536; i++) {
+        bytes[12 + 2 * i] = (uint8_t)(i >> 8);
+        bytes[13 + 2 * i] = (uint8_t)i;
+    }
+    return bytes;
+}
+
+static enum place room_for(size_t count, enum place brief, enum place lengthy)
+{
+    return count < 1000 ? brief : lengthy;
+}
+
+/* Lends the first bytes of a tag. */
+static buffer tag_of(const uint8_t *bytes, size_t len)
+{
+    return lent_copy(room_for(len, FIRST, LONG_FIRST), bytes, len, 1);
+}
+
+static buffer entries_out(size_t count)
+{
+    return lent(room_for(count, OUT, LONG_OUT), count, 2);
+}
+
+static buffer bytes_out(size_t count)
+{
+    return lent(room_for(count, OUT, LONG_OUT), count, 1);
+}
+
+/* Every call that reads a curv tag, and the reader with buffers of every length about its count, of 0 to 3, and of the most. */
+static void read_curv(buffer tag, size_t count)
+{
+    ask_curv_count(tag);
+    ask_curv_part(tag);
+    for (size_t n = 0; n <= 3; n++)
+        ask_curv_read(tag, entries_out(n));
+    for (size_t n = count < 3 ? 4 : count - 1; n <= count + 1; n++)
+        ask_curv_read(tag, entries_out(n));
+    ask_curv_read(tag, entries_out(65536));
+}
+
+static void read_para(buffer tag)
+{
+    ask_para_read(tag);
+    ask_para_curve(tag);
+}
+
+/* The seven numbers that a para tag's bytes say; those past its end are what a writer must ignore. */
+static void numbers_of(const uint8_t *bytes, size_t len, int32_t raw[7])
+{
+    for (size_t k = 0; k < 7; k++) {
+        const uint8_t *from = bytes + 12 + 4 * k;
+        uint32_t x = (uint32_t)from[0] << 24 | (uint32_t)from[1] << 16 | (uint32_t)from[2] << 8 | from[3];
+        raw[k] = 12 + 4 * k < len ? (int32_t)x : k % 2 == 0 ? -(int32_t)k : (int32_t)k;
+    }
+}
+
+/* Writes what a granted para tag says, into buffers of its length, one less and one more. */
+static void write_para(size_t type, const uint8_t *bytes, size_t len)
+{
+    int32_t raw[7];
+    numbers_of(bytes, len, raw);
+    for (size_t n = len - 1; n <= len + 1; n++)
+        ask_para_write(type, raw, bytes_out(n));
+}
+
+static void write_curv(const uint8_t *tag, size_t count)
+{
+    buffer table = lent(room_for(count, SECOND, LONG_SECOND), count, 2);
+    for (size_t i = 0; i < count; i++) {
+        uint16_t entry = (uint16_t)(tag[12 + 2 * i] << 8 | tag[13 + 2 * i]);
+        memcpy(table.write + 2 * i, &entry, 2);
+    }
+    for (size_t n = 11 + 2 * count; n <= 13 + 2 * count; n++)
+        ask_curv_write(table, bytes_out(n));
+}
+
+/* ---- The groups ---- */
+
+static void curv_layouts(void)
+{
+    for (size_t n = 0; n < CURVS; n++) {
+        read_curv(tag_of(curvs[n].bytes, curvs[n].len), n);
+        write_curv(curvs[n].bytes, n);
+    }
+    read_curv(tag_of(most(), most_bytes), 65536);
+    write_curv(most(), 65536);
+}
+
+/* A curve's places, bit by bit; a NaN has no bits of its own. */
+static bool curve_bits_are(bg_parametric p, const uint32_t *bits)
+{
+    const float places[7] = {p.curve.g, p.curve.a, p.curve.b, p.curve.c, p.curve.d, p.curve.e, p.curve.f};
+    for (size_t k = 0; k < 7; k++)
+        if ((places[k] != places[k] ? 0x7fc00000 : bits_of(places[k])) != bits[k])
+            return false;
+    return p.refusal == 0;
+}
+
+static void para_layouts(void)
+{
+    for (size_t i = 0; i < PARAS; i++) {
+        buffer tag = tag_of(paras[i].bytes, paras[i].len);
+        read_para(tag);
+        EXPECT(curve_bits_are(bg_para_curve(tag.read, tag.count), paras[i].curve));
+        write_para(paras[i].bytes[9], paras[i].bytes, paras[i].len);
+    }
+}
+
+/* Each byte of a tag, with each of its values. */
+static void each_byte(const struct tag *tag, void (*ask)(const uint8_t *bytes, size_t len))
+{
+    uint8_t bytes[40];
+    for (size_t i = 0; i < tag->len; i++)
+        for (unsigned v = 0; v < 256; v++) {
+            memcpy(bytes, tag->bytes, sizeof bytes);
+            bytes[i] = (uint8_t)v;
+            ask(bytes, tag->len);
+        }
+}
+
+/* A tag that still has its head is written back too. */
+static void curv_changed(const uint8_t *bytes, size_t len)
+{
+    size_t count = (len - 12) / 2;
+    read_curv(tag_of(bytes, len), count);
+    if (memcmp(bytes, curvs[count].bytes, 12) == 0)
+        write_curv(bytes, count);
+}
+
+static void para_changed(const uint8_t *bytes, size_t len)
+{
+    read_para(tag_of(bytes, len));
+    if (bytes[9] < TYPES && memcmp(bytes, paras[bytes[9]].bytes, 12) == 0 && len == paras[bytes[9]].len)
+        write_para(bytes[9], bytes, len);
+}
+
+static void each_curv_byte(void)
+{
+    for (size_t i = 0; i < CURVS; i++)
+        each_byte(&curvs[i], curv_changed);
+}
+
+static void each_para_byte(void)
+{
+    for (size_t i = 0; i < PARAS; i++)
+        each_byte(&paras[i], para_changed);
+}
+
+/* Every length from none to four too many. */
+static void curv_lengths(void)
+{
+    for (size_t i = 0; i < CURVS; i++)
+        for (size_t n = 0; n <= curvs[i].len + 4; n++)
+            read_curv(tag_of(curvs[i].bytes, n), i);
+    /* Of the longest tag only the head is put anew where each length begins, for speed: what follows is refused unread. */
+    memcpy(lent(LONG_FIRST, 131088, 1).write, most(), 131088);
+    for (size_t n = 0; n <= most_bytes + 4; n++) {
+        buffer tag = lent(LONG_FIRST, n, 1);
+        if (n > 0)
+            memcpy(tag.write, most(), n < 12 ? n : 12);
+        read_curv(tag, 65536);
+    }
+}
+
+static void para_lengths(void)
+{
+    for (size_t i = 0; i < PARAS; i++)
+        for (size_t n = 0; n <= paras[i].len + 4; n++) {
+            uint8_t padded[44] = {0};
+            memcpy(padded, paras[i].bytes, 40);
+            read_para(tag_of(padded, n));
+        }
+}
+
+/* Counts about 65,536 and 2^32, with totals that suit them, that do not, and that would if either were cut to 16 or 32 bits. */
+static void curv_counts(void)
+{
+    static const uint32_t counts[] = {0,      1,          2,          32767,      32768,      65534,      65535,     65536,
+                                      65537,  65538,      131071,     131072,     131073,     0x7ffffffe, 0x7fffffff, 0x80000000,
+                                      0x80000001, 0x80000002, 0x80010000, 0xfffffffa, 0xfffffffe, 0xffffffff};
+    static const size_t totals[] = {0,     10,     11,     12,     13,     14,     15,     16,     17,    65546,
+                                    65547, 65548,  131078, 131080, 131082, 131083, 131084, 131085, 131086, 131087,
+                                    131088, 262154, 262156, 262158};
+    for (size_t c = 0; c < sizeof counts / sizeof *counts; c++)
+        for (size_t t = 0; t < sizeof totals / sizeof *totals; t++) {
+            uint8_t head[12] = "curv";
+            buffer tag = lent(LONG_FIRST, totals[t], 1);
+            for (size_t k = 0; k < 4; k++)
+                head[8 + k] = (uint8_t)(counts[c] >> (24 - 8 * k));
+            if (tag.write != NULL)
+                memcpy(tag.write, head, tag.count < 12 ? tag.count : 12);
+            read_curv(tag, counts[c] > 65536 ? 65536 : counts[c]);
+        }
+}
+
+/* A tag that is to be refused with this number, by hand and by the reference. */
+struct refused {
+    uint32_t number;
+    size_t len;
+    const char *bytes;
+};
+
+static void curv_in_two_ways(void)
+{
+    static const struct refused tags[] = {
+        /* short, and 9; 10; all */
+        {8, 11, "curw\0\0\0\0\0\0\0"},
+        {8, 11, "curv\0\1\0\0\0\0\0"},
+        {8, 11, "para\xff\xff\xff\xff\xff\xff\xff"},
+        /* 9, and 10; 1; 8; all */
+        {9, 12, "Curv\1\0\0\0\0\0\0\0"},
+        {9, 12, "curV\0\0\0\0\0\1\0\1"},
+        {9, 12, "cUrv\0\0\0\0\0\0\0\1"},
+        {9, 13, "para\xff\xff\xff\xff\xff\xff\xff\xff\xff"},
+        /* 10, and 1; 8; both */
+        {10, 12, "curv\0\0\0\1\0\1\0\1"},
+        {10, 12, "curv\0\0\x80\0\0\0\0\1"},
+        {10, 13, "curv\xff\xff\xff\xff\xff\xff\xff\xff\xff"},
+        /* 1, and 8, of an even total and of an odd one */
+        {1, 12, "curv\0\0\0\0\0\1\0\1"},
+        {1, 13, "curv\0\0\0\0\xff\xff\xff\xff\0"},
+    };
+    for (size_t i = 0; i < sizeof tags / sizeof *tags; i++) {
+        buffer tag = tag_of((const uint8_t *)tags[i].bytes, tags[i].len);
+        EXPECT(bg_curv_count(tag.read, tag.count).refusal == tags[i].number);
+        read_curv(tag, 0);
+    }
+}
+
+static void para_in_two_ways(void)
+{
+    static const struct refused tags[] = {
+        /* short, and 9; 10; all */
+        {8, 11, "parb\0\0\0\0\0\0\0"},
+        {8, 11, "para\0\0\1\0\0\0\0"},
+        {8, 11, "curv\xff\xff\xff\xff\xff\xff\xff"},
+        /* 9, and either 10; 11; 8; all */
+        {9, 16, "Para\0\0\0\1\0\0\0\0\0\1\0\0"},
+        {9, 16, "parA\0\0\0\0\0\0\0\1\0\1\0\0"},
+        {9, 16, "pAra\0\0\0\0\0\5\0\0\0\1\0\0"},
+        {9, 15, "paRa\0\0\0\0\0\0\0\0\0\1\0"},
+        {9, 13, "curv\xff\xff\xff\xff\xff\xff\xff\xff\xff"},
+        /* either 10, and 11; 8; all */
+        {10, 16, "para\1\0\0\0\0\5\0\0\0\1\0\0"},
+        {10, 15, "para\0\1\0\0\0\0\0\0\0\1\0"},
+        {10, 16, "para\0\0\0\0\0\5\0\1\0\1\0\0"},
+        {10, 15, "para\0\0\0\0\0\0\1\0\0\1\0"},
+        {10, 13, "para\xff\xff\xff\xff\xff\xff\xff\xff\xff"},
+        /* 11, and 8 */
+        {11, 13, "para\0\0\0\0\0\5\0\0\0"},
+        {11, 12, "para\0\0\0\0\xff\xff\0\0"},
+    };
+    for (size_t i = 0; i < sizeof tags / sizeof *tags; i++) {
+        buffer tag = tag_of((const uint8_t *)tags[i].bytes, tags[i].len);
+        EXPECT(bg_para_read(tag.read, tag.count).refusal == tags[i].number);
+        read_para(tag);
+    }
+}
+
+/* Buffers of every other length: 6 last; the curv writer's 1 before it, and the para writer's 11 at any width of the type. */
+static void buffers(void)
+{
+    static const size_t lengths[] = {0, 11, 12, 13, 14, 16, 24, 28, 32, 40, 131083, 131084, 131085, 131086, 131087};
+    static const size_t tables[] = {0, 1, 2, 65535, 65536, 65537, 131072, LONGEST};
+    static const size_t types[] = {0, 1, 2, 3, 4, 5, 255, 256, 257, 65536, (size_t)1 << 32, SIZE_MAX};
+    static const int32_t raw[7] = {1, 2, 3, 4, 5, 6, 7};
+    enum { LENGTHS = sizeof lengths / sizeof *lengths };
+    for (size_t n = 0; n <= 5; n++)
+        ask_curv_read(tag_of(curvs[2].bytes, 16), entries_out(n));
+    for (size_t t = 0; t < sizeof tables / sizeof *tables; t++)
+        for (size_t n = 0; n < LENGTHS; n++)
+            ask_curv_write(lent(LONG_SECOND, tables[t], 2), bytes_out(lengths[n]));
+    for (size_t t = 0; t < sizeof types / sizeof *types; t++)
+        for (size_t n = 0; n < LENGTHS; n++)
+            ask_para_write(types[t], raw, bytes_out(lengths[n]));
+}
+
+/* ---- f64 to the nearest f32 ---- */
+
+enum { ROUNDED = 200000 };
+
+static void ask_rounded(uint64_t bits)
+{
+    double x;
+    memcpy(&x, &bits, sizeof x);
+    ask_nearest_f64_to_f32(x);
+}
+
+static uint64_t packed(uint64_t sign, uint64_t exponent, uint64_t digits)
+{
+    return (sign & UINT64_C(1) << 63) | exponent << 52 | (digits & ((UINT64_C(1) << 52) - 1));
+}
+
+/* The digits down to 2^places, and below them half of that, or one less or more. */
+static uint64_t near_half(uint64_t digits, unsigned places, uint64_t w)
+{
+    return (digits >> places << places) | ((UINT64_C(1) << (places - 1)) - 1 + w % 3);
+}
+
+static void any_pattern(void)
+{
+    for (size_t i = 0; i < ROUNDED; i++)
+        ask_rounded(word());
+}
+
+static void normal_ties(void)
+{
+    for (size_t i = 0; i < ROUNDED; i++) {
+        uint64_t w = word();
+        ask_rounded(packed(w, 897 + (w >> 52) % 254, near_half(w, 29, w)));
+    }
+}
+
+/* Below the normal numbers, down to half of the smallest. */
+static void subnormal_ties(void)
+{
+    for (size_t i = 0; i < ROUNDED; i++) {
+        uint64_t w = word();
+        unsigned exponent = 872 + (unsigned)((w >> 52) % 25);
+        ask_rounded(packed(w, exponent, near_half(w, 926 - exponent, w)));
+    }
+}
+
+static void largest(void)
+{
+    for (size_t i = 0; i < ROUNDED; i++) {
+        uint64_t w = word();
+        ask_rounded(packed(w, 1149 + (w >> 52) % 3, near_half((UINT64_C(1) << 52) - 1, 29, w)));
+    }
+}
+
+static void special(void)
+{
+    for (size_t i = 0; i < ROUNDED; i++) {
+        uint64_t w = word();
+        ask_rounded(packed(w, 2047 * (w % 2), w % 4 < 2 ? 0 : w));
+    }
+}
+
+/*
+ * Below 2^24 every number is a float itself. Above, those that matter are at a tie and next to one: of each power of two
+ * the first, the last and any. The rest are any numbers, and each half with the other half all zeros or all ones.
+ */
+static void signed_16_16(void)
+{
+    for (unsigned bits = 25; bits <= 31; bits++)
+        for (size_t i = 0; i < 4000; i++) {
+            uint32_t unit = UINT32_C(1) << (bits - 24), top = UINT32_C(1) << (bits - 1);
+            uint32_t digits = i == 0 ? 0 : i == 1 ? top - unit : (uint32_t)word() % top / unit * unit;
+            for (uint32_t near = 0; near <= 2; near++) {
+                int32_t x = (int32_t)(top + digits + unit / 2 - 1 + near);
+                ask_s15_fixed16_number_to_float(x);
+                ask_s15_fixed16_number_to_float(-x);
+            }
+        }
+    for (uint32_t half = 0; half < 65536; half++) {
+        ask_s15_fixed16_number_to_float((int32_t)half);
+        ask_s15_fixed16_number_to_float((int32_t)(half << 16));
+        ask_s15_fixed16_number_to_float((int32_t)(half << 16 | 0xffff));
+        ask_s15_fixed16_number_to_float((int32_t)(0xffff0000 | half));
+        ask_s15_fixed16_number_to_float((int32_t)word());
+    }
+}
+
+static void unsigned_8_8(void)
+{
+    for (uint32_t x = 0; x < 65536; x++)
+        ask_u8_fixed_8number_to_float((uint16_t)x);
+}
+
+void sweeps(void)
+{
+    seed(1);
+    subject("curv layouts", curv_layouts);
+    subject("para layouts", para_layouts);
+    subject("curv, each byte changed", each_curv_byte);
+    subject("para, each byte changed", each_para_byte);
+    subject("curv, cut short and padded", curv_lengths);
+    subject("para, cut short and padded", para_lengths);
+    subject("curv counts", curv_counts);
+    subject("curv, wrong in two ways", curv_in_two_ways);
+    subject("para, wrong in two ways", para_in_two_ways);
+    subject("buffers of tags", buffers);
+    subject("f64 of any pattern", any_pattern);
+    subject("f64 at a tie, or next to one", normal_ties);
+    subject("f64 at a tie below the normal f32s", subnormal_ties);
+    subject("f64 about the largest f32", largest);
+    subject("f64 that is zero, subnormal, infinite or no number", special);
+    subject("signed 16.16", signed_16_16);
+    subject("unsigned 8.8", unsigned_8_8);
+}
