@@ -17,7 +17,6 @@ const SESSIONS: [(Session, u64, &str); 25] = [
     (on_tables::refusals, 0, "Each refusal and each pair of them: no table, two good ones, and one that is too long"),
     (on_tables::short, 214, "Tables of 1 to 4 entries over 0, 1, 100, 32768, 65534 and 65535"),
     (on_tables::long, 150, "Tables at the limits of what 32 bits hold, and the longest"),
-    (on_tables::random, 240, "Tables of every shape, and of other lengths"),
     (on_tables::inverted, 70, "Whole tables inverted, also to lengths whose f64 steps are not exact rounding"),
     (on_tables::empty, 2, "The empty table, which answers its input as an f32"),
     (edges::whole_numbers, 8, "The lookup where its sum is a multiple of 65535, and one beside it"),
@@ -35,17 +34,20 @@ const SESSIONS: [(Session, u64, &str); 25] = [
     (numbers::fixed8, 14, "8.8 numbers"),
     (numbers::narrow, 22, "f64 to f32: every class, and what lies at, beside and halfway between f32s"),
     (numbers::raw, 22, "Raw 16.16 numbers"),
-    (numbers::param, 13, "Parametric curves"),
-    (numbers::compare, 13, "Parameters compared, with differences about 1e-4"),
-    (numbers::para, 4, "para tags"),
+    (numbers::param, 6, "Parametric curves"),
+    (numbers::compare, 6, "Parameters compared, with differences about 1e-4"),
+    (numbers::para, 2, "para tags"),
+    (on_tables::random, 256, "Tables of every shape, and of other lengths"),
 ];
 
-/// Writes about this many answers, each session's from a random stream of its own.
+/// Writes this many answers or some more, each session's from a random stream of its own. Some sessions have no more
+/// than so much to ask: the last one goes on until there are enough.
 pub fn write_all(t: &mut Transcript, answers: u64, seed: u64) {
-    for (number, (session, share, title)) in (1..).zip(SESSIONS) {
+    for (number, (session, share, title)) in SESSIONS.into_iter().enumerate() {
         t.comment(&format!("{title}."));
-        let mut g = Generator::new(seed, number);
+        let mut g = Generator::new(seed, number as u64 + 1);
         let until = t.asked() + answers * share / 1000;
-        session(t, &mut g, until);
+        let is_last = number + 1 == SESSIONS.len();
+        session(t, &mut g, if is_last { until.max(answers) } else { until });
     }
 }

@@ -72,8 +72,13 @@ fn any_raw(g: &mut Generator) -> i32 {
     }
 }
 
+/// Curves that are asked about at least, and pairs that are compared: each is a request of its own, which takes groat
+/// longer than a whole list of questions, so that they are few among many.
+const LEAST: u64 = 200;
+
 /// Counts from 0 to 8, most of them such as a curve has.
 pub fn param(t: &mut Transcript, g: &mut Generator, until: u64) {
+    let until = until.max(t.asked() + LEAST);
     for count in 0..9 {
         routines::param(t, &many(count, || parameter(g)));
     }
@@ -90,6 +95,7 @@ fn parameter(g: &mut Generator) -> u32 {
 }
 
 pub fn compare(t: &mut Transcript, g: &mut Generator, until: u64) {
+    let until = until.max(t.asked() + LEAST);
     while t.asked() < until {
         let [src_count, dst_count] = if g.once_in(3) { [g.below(9), g.below(9)] } else { [g.pick(&[5, 7]); 2] };
         let src = many(8, || if g.once_in(4) { any_32(g) } else { parameter(g) });
