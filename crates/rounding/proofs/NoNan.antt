@@ -57,8 +57,8 @@ min-nan-of {x} {bound} p e = minimum-nan x bound (sym (p .value) ∙ e)
 -- ---- a fixed-point number
 pub ratio-no-nan : (z : ℤ) (d : ℕ) → isNan (ratio z d) ≡ false
 unfolding ratio
-ratio-no-nan (pos n) d = round-no-nan binary32 false n d
-ratio-no-nan (negsuc n) d = round-no-nan binary32 true (suc n) d
+ratio-no-nan (pos n) d = round-no-nan binary32 _ n d
+ratio-no-nan (negsuc n) d = round-no-nan binary32 _ (suc n) d
 
 pub u8-no-nan : {x : ℕ} {r : Float} → U8Fixed8Promise x r → r ≡ nan → ⊥
 u8-no-nan {x} {r} p = no-nan r (ap isNan (p .value) ∙ ratio-no-nan (pos x) 256)
@@ -69,5 +69,5 @@ s15-no-nan {x} {r} p = no-nan r (ap isNan (p .value) ∙ ratio-no-nan x 65536)
 -- an i32 over 65536 is at most 32768 in size
 pub ratio-finite : (z : ℤ) → mag z < 2 ^ 31 → T (finite (ratio z 65536))
 unfolding ratio
-ratio-finite (pos n) h = round-bounded binary32 false n 65536 32768 (lit< tt) (lit≤ tt) (omega arith) .0
-ratio-finite (negsuc n) h = round-bounded binary32 true (suc n) 65536 32768 (lit< tt) (lit≤ tt) (omega arith) .0
+ratio-finite (pos n) h = round-bounded binary32 _ n 65536 32768 (lit< tt) (lit≤ tt) (omega arith) .0
+ratio-finite (negsuc n) h = round-bounded binary32 _ (suc n) 65536 32768 (lit< tt) (lit≤ tt) (omega arith) .0
