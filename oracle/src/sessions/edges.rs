@@ -235,14 +235,21 @@ fn with_falls(g: &mut Generator, length: usize, falls: usize) -> Vec<u16> {
 /// Tables with a run of about twenty equal entries at either end, of any level.
 pub fn twenties(t: &mut Transcript, g: &mut Generator, until: u64) {
     const RUNS: [usize; 7] = [0, 1, 2, 18, 19, 20, 21];
+    for run in [19, 20, 21] {
+        with_end_runs(t, g, 60, [run, 0]);
+        with_end_runs(t, g, 60, [0, run]);
+    }
     while t.asked() < until {
         let length = g.pick(&[2, 18, 19, 20, 21, 39, 40, 41, 60, 255]);
-        let mut table = tables::neither(g, length);
-        let head = g.pick(&RUNS).min(length);
-        let tail = g.pick(&RUNS).min(length);
-        table[..head].fill(g.sixteen_bits());
-        table[length - tail..].fill(g.sixteen_bits());
-        t.table(&table);
-        verdicts(t, &table);
+        let runs = [g.pick(&RUNS), g.pick(&RUNS)];
+        with_end_runs(t, g, length, runs.map(|run| run.min(length)));
     }
+}
+
+fn with_end_runs(t: &mut Transcript, g: &mut Generator, length: usize, [head, tail]: [usize; 2]) {
+    let mut table = tables::neither(g, length);
+    table[..head].fill(g.sixteen_bits());
+    table[length - tail..].fill(g.sixteen_bits());
+    t.table(&table);
+    verdicts(t, &table);
 }

@@ -96,6 +96,10 @@ fn parameter(g: &mut Generator) -> u32 {
 
 pub fn compare(t: &mut Transcript, g: &mut Generator, until: u64) {
     let until = until.max(t.asked() + LEAST);
+    for pattern in LIMIT - 1..=LIMIT + 1 {
+        routines::compare(t, &[pattern], &[0]);
+        routines::compare(t, &[0], &[pattern]);
+    }
     while t.asked() < until {
         let [src_count, dst_count] = if g.once_in(3) { [g.below(9), g.below(9)] } else { [g.pick(&[5, 7]); 2] };
         let src = many(8, || if g.once_in(4) { any_32(g) } else { parameter(g) });
@@ -104,10 +108,13 @@ pub fn compare(t: &mut Transcript, g: &mut Generator, until: u64) {
     }
 }
 
+/// The difference up to which two parameters are close.
+const LIMIT: u32 = 1e-4f32.to_bits();
+
 /// The same number, or one about a ten-thousandth away, or seldom any.
 fn beside(g: &mut Generator, pattern: u32) -> u32 {
     let number = f32::from_bits(pattern);
-    let step = f32::from_bits(1e-4f32.to_bits() + g.below(9) as u32 - 4);
+    let step = f32::from_bits(LIMIT + g.below(9) as u32 - 4);
     match g.below(16) {
         0 => any_32(g),
         _ if number.is_nan() => pattern,
