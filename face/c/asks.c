@@ -11,7 +11,8 @@
 #include <sys/mman.h>
 #include <unistd.h>
 
-enum { PAGE = 4096, GUARD = 64, SHOWN = 44 };
+/* PAGE has whole pages of any size that a machine, or the one below an emulator, may have. */
+enum { PAGE = 65536, GUARD = 64, SHOWN = 44 };
 
 static const size_t room_bytes[PLACES] = {
     [FIRST] = PAGE, [SECOND] = PAGE, [OUT] = PAGE,
@@ -58,41 +59,52 @@ uint64_t word(void)
 
 size_t below(size_t limit)
 {
-    return (size_t)((word() >> 16) % limit);
+    return limit == 0 ? 0 : (size_t)((word() >> 16) % limit);
 }
 
 /* ---- Rooms ---- */
 
+static void no_memory(void)
+{
+    fprintf(stderr, "face: no memory\n");
+    exit(2);
+}
+
 static unsigned char *map(int file, size_t bytes, int protection)
 {
     unsigned char *shut = mmap(NULL, bytes + 2 * PAGE, PROT_NONE, MAP_PRIVATE | MAP_ANONYMOUS, -1, 0);
-    if (shut == MAP_FAILED || mmap(shut + PAGE, bytes, protection, MAP_SHARED | MAP_FIXED, file, 0) == MAP_FAILED) {
-        fprintf(stderr, "face: no memory\n");
-        exit(2);
-    }
+    if (shut == MAP_FAILED || mmap(shut + PAGE, bytes, protection, MAP_SHARED | MAP_FIXED, file, 0) == MAP_FAILED)
+        no_memory();
     return shut + PAGE;
 }
 
 buffer lent(enum place place, size_t count, size_t size)
 {
-    size_t room = room_bytes[place], bytes = count * size, gap = below(2) == 0 ? 0 : below(32) * size;
-    buffer b = {NULL, NULL, count, size, place};
-    size_t at = below(2) == 0 ? gap : room - bytes - gap;
-    if (count > 0 || below(2) == 0) {
-        if (count == 0)
-            at = room;
-        b.write = rooms[place].write + at;
-        b.read = rooms[place].read + at;
-    }
-    return b;
+    size_t room = room_bytes[place], gap = below(2) == 0 ? 0 : below(32) * size;
+    size_t at = count == 0 ? room : below(2) == 0 ? gap : room - count * size - gap;
+    if (count == 0 && below(2) == 0)
+        return (buffer){NULL, NULL, 0, size, place};
+    return (buffer){rooms[place].write + at, rooms[place].read + at, count, size, place};
 }
 
-buffer lent_copy(enum place place, const void *from, size_t count, size_t size)
+buffer lent_by_length(enum place brief, enum place lengthy, size_t count, size_t size)
 {
-    buffer b = lent(place, count, size);
-    if (count > 0)
-        memcpy(b.write, from, count * size);
-    return b;
+    return lent(count < 1000 ? brief : lengthy, count, size);
+}
+
+/* What is not touched costs no memory. */
+buffer lent_vast(size_t more, size_t size, const void *first, size_t first_bytes)
+{
+    static unsigned char *vast;
+    if (vast == NULL)
+        vast = mmap(NULL, ((size_t)1 << 34) + LONGEST, PROT_READ, MAP_PRIVATE | MAP_ANONYMOUS | MAP_NORESERVE, -1, 0);
+    if (vast == MAP_FAILED || mprotect(vast, PAGE, PROT_READ | PROT_WRITE) != 0)
+        no_memory();
+    memset(vast, 0, PAGE);
+    memcpy(vast, first, first_bytes);
+    if (mprotect(vast, PAGE, PROT_READ) != 0)
+        no_memory();
+    return (buffer){NULL, vast, ((size_t)1 << 32) + more, size, PLACES};
 }
 
 /* ---- Reports ---- */
@@ -174,10 +186,8 @@ void open_rooms(void)
     wanted = malloc(4 * LONGEST);
     for (size_t i = 0; i < PLACES; i++) {
         int file = memfd_create("room", 0);
-        if (wanted == NULL || file < 0 || ftruncate(file, (off_t)room_bytes[i]) != 0) {
-            fprintf(stderr, "face: no memory\n");
-            exit(2);
-        }
+        if (wanted == NULL || file < 0 || ftruncate(file, (off_t)room_bytes[i]) != 0)
+            no_memory();
         rooms[i].write = map(file, room_bytes[i], PROT_READ | PROT_WRITE);
         rooms[i].read = map(file, room_bytes[i], PROT_READ);
         close(file);
@@ -319,7 +329,8 @@ static void hold_curve(bg_parametric g, bg_parametric w)
 
 static void put_para(uint64_t *to, bg_para p)
 {
-    const int32_t places[7] = {p.numbers.g, p.numbers.a, p.numbers.b, p.numbers.c, p.numbers.d, p.numbers.e, p.numbers.f};
+    const bg_raw n = p.numbers;
+    const int32_t places[7] = {n.g, n.a, n.b, n.c, n.d, n.e, n.f};
     to[0] = p.refusal;
     to[1] = p.count;
     for (size_t k = 0; k < 7; k++)
@@ -339,6 +350,7 @@ static void at(enum export export, const buffer *a, const buffer *b, const buffe
     now.call = ++asked[export];
 }
 
+/* Says what else it is given. */
 static void with(uint64_t number)
 {
     now.numbers[now.number_count++] = number;
@@ -407,7 +419,7 @@ void ask_accept(buffer table)
 void ask_nudge(buffer table, size_t index, uint16_t value)
 {
     uint32_t want;
-    if (table.count > 0)
+    if (table.count > 0 && table.count <= LONGEST)
         memcpy(wanted, table.read, table.count * table.size);
     want = ref_nudge(wanted, table.count, index, density(value));
     at(ASK_nudge, &table, NULL, NULL);
@@ -429,8 +441,8 @@ void ask_least_input_row(buffer table, buffer densities, buffer out)
 {
     uint32_t want = ref_least_input_row(U16(table), table.count, U16(densities), densities.count, wanted, out.count);
     at(ASK_least_input_row, &table, &densities, &out);
-    hold_done(bg_least_input_row(U16(table), table.count, U16(densities), densities.count, ready(&out, want), out.count),
-              want);
+    hold_done(bg_least_input_row(U16(table), table.count, U16(densities), densities.count, ready(&out, want),
+                                 out.count), want);
     wrote(&out, want);
 }
 

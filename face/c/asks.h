@@ -1,6 +1,6 @@
 /*
- * Each export asked with any input and held to the reference: what it answers, what it writes, and that it touches nothing
- * else. A difference is printed with the export, its input and both answers.
+ * Each export asked with any input and held to the reference: what it answers, what it writes, and that it touches
+ * nothing else. A difference is printed with the export, its input and both answers.
  */
 #ifndef ASKS_H
 #define ASKS_H
@@ -50,9 +50,9 @@ uint64_t word(void);
 size_t below(size_t limit);
 
 /*
- * The rooms to lend from, each between two shut pages: two for short inputs and one for a short output, and the same for
- * as many as a million elements. Each is mapped twice: by `write` it is filled, and `read`, where nothing can be written,
- * is what a call is lent that should only read.
+ * The rooms to lend from, each between two shut pages: for short inputs and outputs, and for as many as a million
+ * elements. Each is mapped twice: by `write` it is filled, and `read`, where nothing can be written, is what a call is
+ * lent that should only read.
  */
 enum place { FIRST, SECOND, OUT, LONG_FIRST, LONG_SECOND, LONG_FLOATS, LONG_OUT, PLACES };
 enum { LONGEST = 1 << 20 };
@@ -66,13 +66,16 @@ typedef struct {
 } buffer;
 
 /*
- * Lends what stands in the room. It begins where the room does or ends where it does, or up to 31 elements from there, as
- * the generator has it; nothing is lent as a null pointer or as a pointer to no byte that can be read.
+ * Lends what stands in the room. It begins where the room does or ends where it does, or up to 31 elements from there,
+ * as the generator has it. Nothing is lent as a null pointer, or as a pointer to a byte that cannot be read.
  */
 buffer lent(enum place place, size_t count, size_t size);
 
-/* Lends what is given. */
-buffer lent_copy(enum place place, const void *from, size_t count, size_t size);
+/* The same, of the place for short buffers or of the one for long ones. */
+buffer lent_by_length(enum place brief, enum place lengthy, size_t count, size_t size);
+
+/* Lends 2^32 and `more` elements that begin with the bytes given. All others are 0, and none can be written. */
+buffer lent_vast(size_t more, size_t size, const void *first, size_t first_bytes);
 
 /* Makes the rooms, and has a fault printed with the call that made it. */
 void open_rooms(void);
@@ -116,8 +119,8 @@ extern unsigned given[ASK_COUNT];
 extern const char *const export_names[ASK_COUNT];
 extern const unsigned may_give[ASK_COUNT];
 
-/* Both are run by an argument: "sweeps", and "random COUNT SEED". */
-void sweeps(void);
-void at_random(unsigned long count, uint64_t from);
+/* The sweeps, with so many numbers of each class to be rounded; and so many calls at random, from a seed. */
+void sweeps(unsigned long numbers);
+void at_random(unsigned long calls, uint64_t from);
 
 #endif

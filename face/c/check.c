@@ -190,19 +190,18 @@ static void by_hand(void)
     environments();
 }
 
-/* No argument: what is written by hand. `sweeps`: the sweeps. `random COUNT SEED`: so many calls. */
+/* What is written by hand; `sweeps NUMBERS`, so many of each class; or `random CALLS SEED`. */
 int main(int argc, char **argv)
 {
     setvbuf(stdout, NULL, _IOLBF, BUFSIZ);
-    open_rooms();
     if (argc == 1)
         by_hand();
-    else if (argc == 2 && strcmp(argv[1], "sweeps") == 0)
-        sweeps();
+    else if (argc == 3 && strcmp(argv[1], "sweeps") == 0)
+        sweeps(strtoul(argv[2], NULL, 10));
     else if (argc == 4 && strcmp(argv[1], "random") == 0)
         at_random(strtoul(argv[2], NULL, 10), strtoull(argv[3], NULL, 10));
     else
-        stop("usage: tests [sweeps | random COUNT SEED]");
+        stop("usage: tests [sweeps NUMBERS | random CALLS SEED]");
     printf("face: %lu expectations, %lu failed\n", expected, failed);
     return failed == 0 ? 0 : 1;
 }

@@ -2,6 +2,7 @@
 #include "asks.h"
 
 #include <inttypes.h>
+#include <math.h>
 #include <stdio.h>
 #include <string.h>
 
@@ -25,7 +26,7 @@ static size_t length(size_t rare)
     }
 }
 
-/* The same length, or by chance another. */
+/* This length, or by chance another. */
 static size_t about(size_t n)
 {
     switch (below(8)) {
@@ -37,6 +38,21 @@ static size_t about(size_t n)
         return length(64);
     default:
         return n;
+    }
+}
+
+/* A number that is small where it is cut to 16, 32 or no bits, and by chance any. */
+static size_t number(size_t limit)
+{
+    switch (below(16)) {
+    case 0:
+        return (size_t)word();
+    case 1:
+        return ((size_t)1 << 16) + below(limit);
+    case 2:
+        return ((size_t)1 << 32) + below(limit);
+    default:
+        return below(limit);
     }
 }
 
@@ -56,7 +72,7 @@ static uint16_t half(void)
 /* A double: of the unit interval, a whole number of some parts of it, beside its ends, or of any bits. */
 static double any_double(void)
 {
-    static const double ends[] = {0, 1, -0x1p-1074, 0x1p-1074, 0x1p-1022, 1 + 0x1p-52, 1 - 0x1p-53, -1, 2, 0x1p-150};
+    static const double ends[] = {0, 1, 0x1p-1074, 0x1p-1022, 0x1p-150, 1 + 0x1p-52, 1 - 0x1p-53, 2, INFINITY, NAN};
     uint64_t bits = word();
     double x;
     size_t parts;
@@ -123,7 +139,7 @@ static uint16_t *u16_of(buffer b)
 /* A table. A long one is what stands in its room, which is filled anew by chance, at both of its ends. */
 static buffer table_of(size_t n, enum place brief, enum place lengthy)
 {
-    buffer b = lent(n < 1000 ? brief : lengthy, n, 2);
+    buffer b = lent_by_length(brief, lengthy, n, 2);
     if (n > 0 && n < 1000)
         fill_table(u16_of(b), n);
     else if (n >= 1000 && below(16) == 0)
@@ -143,15 +159,15 @@ static buffer row(size_t n)
 
 static buffer out_of(size_t n, size_t size)
 {
-    return lent(n < 1000 ? OUT : LONG_OUT, n, size);
+    return lent_by_length(OUT, LONG_OUT, n, size);
 }
 
 static buffer floats_of(size_t n, enum place brief)
 {
-    buffer b = lent(n < 500 ? brief : LONG_FLOATS, n, 4);
-    for (size_t i = 0; i < n && i < 500; i++) {
+    buffer b = lent_by_length(brief, LONG_FLOATS, n, 4);
+    for (size_t i = 0; i < n && i < 1000; i++) {
         float x = any_float();
-        memcpy(b.write + 4 * (n < 500 ? i : below(n)), &x, 4);
+        memcpy(b.write + 4 * (n < 1000 ? i : below(n)), &x, 4);
     }
     return b;
 }
@@ -176,7 +192,7 @@ static void put(uint8_t *to, uint32_t x, size_t bytes)
 static buffer tag_of(const uint8_t *head, size_t len)
 {
     size_t n = below(8) == 0 ? about(len) : len;
-    buffer b = lent(n < 1000 ? FIRST : LONG_SECOND, n, 1);
+    buffer b = lent_by_length(FIRST, LONG_SECOND, n, 1);
     for (size_t i = 0; i < n && i < 1000; i++)
         b.write[i] = i < 12 ? head[i] : (uint8_t)word();
     if (n > 0 && below(3) == 0)
@@ -204,19 +220,17 @@ static buffer para_tag(void)
 
 static void gamma_lookup(void)
 {
-    size_t inputs = below(2) == 0 ? length(8) : 2 + below(65535), depth = below(8) == 0 ? (size_t)word() : 1 + below(16);
-    size_t input = below(8) == 0 ? inputs + below(2) : inputs == 0 ? 0 : below(inputs);
-    if (below(32) == 0)
-        depth = below(18);
-    ask_lut_interp_linear_gamma_impl(table(64), inputs, depth, input);
+    size_t inputs = below(2) == 0 ? length(8) : number(65540);
+    size_t input = below(8) == 0 ? inputs + number(2) : number(inputs + 1);
+    ask_lut_interp_linear_gamma_impl(table(64), inputs, number(18), input);
 }
 
 static void nudge(void)
 {
     buffer b = table(64);
-    size_t index = b.count > 0 && below(16) != 0 ? below(b.count) : b.count + below(2);
+    size_t index = number(b.count + 1);
     uint16_t near = index < b.count ? u16_of(b)[index] : half();
-    ask_nudge(b, below(64) == 0 ? (size_t)word() : index, below(2) == 0 ? near : (uint16_t)(near + below(9) - 4));
+    ask_nudge(b, index, below(2) == 0 ? near : (uint16_t)(near + below(9) - 4));
 }
 
 static void lookup_row(void)
@@ -256,11 +270,11 @@ static void read_curv(void)
 static void write_para(void)
 {
     static const size_t lengths[8] = {16, 24, 28, 32, 40, 16, 12, 0};
-    size_t type = below(6);
+    size_t type = number(6);
     int32_t raw[7];
     for (size_t k = 0; k < 7; k++)
         raw[k] = (int32_t)word();
-    ask_para_write(below(16) == 0 ? (size_t)word() : type, raw, out_of(about(lengths[type]), 1));
+    ask_para_write(type, raw, out_of(about(lengths[type % 8]), 1));
 }
 
 /* The parts of the seven classes that a random word seldom meets are swept. */
@@ -283,7 +297,7 @@ static void compare(void)
     size_t n = length(256);
     buffer src = floats_of(n, FIRST), dst = floats_of(about(n), SECOND);
     /* nearly the same, so that it is the last places which decide */
-    if (n < 500 && dst.count <= n && below(4) != 0)
+    if (n < 1000 && dst.count <= n && below(4) != 0)
         for (size_t i = 0; i < dst.count; i++) {
             float x, apart = below(16) == 0 ? 1.1e-4f : 0.9e-4f;
             memcpy(&x, src.read + 4 * i, 4);
@@ -291,6 +305,13 @@ static void compare(void)
             memcpy(dst.write + 4 * i, &x, 4);
         }
     ask_compare_parametric(src, dst);
+}
+
+/* A long table is asked for few entries: of one that is flat, each takes as many steps as it has entries. */
+static void invert(void)
+{
+    buffer b = table(64);
+    ask_invert_lut(b, out_of(length(b.count < 1000 ? 512 : SIZE_MAX), 2));
 }
 
 static void one(void)
@@ -304,19 +325,14 @@ static void one(void)
         lookup_row();
         break;
     case 2:
-        if (below(8) != 0)
-            ask_bake(table(8), out_of(length(64) % 65536, 2));
-        else if (below(4) == 0)
-            ask_bake(table(8), out_of(length(2), 2));
+        ask_bake(table(8), out_of(length(64), 2));
         break;
     case 3:
     case 4:
         gamma_lookup();
         break;
     case 5:
-        ask_start(lent(FIRST, length(8) % 2000, 2));
-        if (below(16) == 0)
-            ask_start(out_of(length(2), 2));
+        ask_start(out_of(length(64), 2));
         break;
     case 6:
         ask_accept(table(64));
@@ -336,7 +352,7 @@ static void one(void)
         ask_lut_inverse_interp16(b, density_of(b));
         break;
     case 11:
-        ask_invert_lut(table(256), out_of(length(1024), 2));
+        invert();
         break;
     case 12:
         ask_lut_interp_linear_float(floats_of(length(64), FIRST), any_float());
@@ -345,7 +361,7 @@ static void one(void)
         ask_lut_interp_linear(table(64), any_double());
         break;
     case 14:
-        ask_passthrough_table_impl(out_of(length(128), 4));
+        ask_passthrough_table_impl(out_of(length(64), 4));
         break;
     case 15:
         numbers();
@@ -363,7 +379,7 @@ static void one(void)
         ask_is_curve_degenerated(table(64));
         break;
     case 20:
-        ask_house_entry(below(16) == 0 ? (size_t)word() : below(1030));
+        ask_house_entry(number(1030));
         ask_house_fill(out_of(below(16) == 0 ? length(8) : 1023 + below(3), 2));
         ask_version();
         break;
@@ -380,7 +396,7 @@ static void one(void)
     }
 }
 
-static unsigned long calls;
+static unsigned long wanted_calls;
 
 static unsigned long asked_in_all(void)
 {
@@ -392,7 +408,7 @@ static unsigned long asked_in_all(void)
 
 static void some(void)
 {
-    while (asked_in_all() < calls)
+    while (asked_in_all() < wanted_calls)
         one();
 }
 
@@ -400,17 +416,19 @@ static void some(void)
 static void each_number(void)
 {
     for (size_t i = 0; i < ASK_COUNT; i++) {
-        bool all = given[i] == may_give[i] && asked[i] > 0;
-        tally(all || calls < 100000);
-        printf("face: random: %s: %lu calls%s\n", export_names[i], asked[i], all ? "" : ", not with each of its numbers");
+        bool all = given[i] == may_give[i];
+        tally(all || wanted_calls < 100000);
+        printf("face: random: %s: %lu calls", export_names[i], asked[i]);
+        printf(all ? "\n" : ", which did not give each of its numbers\n");
     }
 }
 
-void at_random(unsigned long count, uint64_t from)
+void at_random(unsigned long calls, uint64_t from)
 {
-    printf("face: random: %lu calls with seed %" PRIu64 "\n", count, from);
-    calls = count;
+    printf("face: random: %lu calls with seed %" PRIu64 "\n", calls, from);
+    wanted_calls = calls;
     seed(from);
+    open_rooms();
     subject("random calls", some);
     subject("every export with each of its numbers", each_number);
 }

@@ -1,6 +1,6 @@
 /*
- * What every export should answer: document 01's rules in plain C, written from its words and ICC.1 and from nothing else.
- * Each function takes what its export takes. A granted one writes its output; a refused one leaves it.
+ * What every export should answer: document 01's rules in plain C, written from its words and ICC.1 and from nothing
+ * else. Each function takes what its export takes. A granted one writes its output; a refused one leaves it.
  */
 #ifndef REFERENCE_H
 #define REFERENCE_H

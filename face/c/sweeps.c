@@ -1,14 +1,16 @@
 /*
  * Sweeps: every ICC layout, each byte of each short tag changed in every way, every length about a tag's own, counts at
- * their limits, tags and calls that are wrong in two ways, and numbers rounded to float against C's own cast.
+ * their limits, tags and calls that are wrong in two ways, lengths past 2^32, and numbers rounded to float against C's
+ * own cast. Where an answer stands here as a number, the reference is held to it, as the exports are to the reference.
  */
 #include "asks.h"
+#include "reference.h"
 
 #include <string.h>
 
 /* ---- The tags ---- */
 
-/* Tags of each layout, byte by byte as ICC.1 has them, and the curves of the para tags as bits, worked out by fractions. */
+/* Tags of each layout, byte by byte as ICC.1 has them, and the curves of the para tags, worked out by fractions. */
 struct tag {
     size_t len;
     uint8_t bytes[40];
@@ -62,28 +64,26 @@ static const uint8_t *most(void)
     return bytes;
 }
 
-static enum place room_for(size_t count, enum place brief, enum place lengthy)
-{
-    return count < 1000 ? brief : lengthy;
-}
-
 /* Lends the first bytes of a tag. */
 static buffer tag_of(const uint8_t *bytes, size_t len)
 {
-    return lent_copy(room_for(len, FIRST, LONG_FIRST), bytes, len, 1);
+    buffer b = lent_by_length(FIRST, LONG_FIRST, len, 1);
+    if (len > 0)
+        memcpy(b.write, bytes, len);
+    return b;
 }
 
 static buffer entries_out(size_t count)
 {
-    return lent(room_for(count, OUT, LONG_OUT), count, 2);
+    return lent_by_length(OUT, LONG_OUT, count, 2);
 }
 
 static buffer bytes_out(size_t count)
 {
-    return lent(room_for(count, OUT, LONG_OUT), count, 1);
+    return lent_by_length(OUT, LONG_OUT, count, 1);
 }
 
-/* Every call that reads a curv tag, and the reader with buffers of every length about its count, of 0 to 3, and of the most. */
+/* Every call that reads a curv tag, with buffers for 0 to 3 entries, about as many as its count, and for the most. */
 static void read_curv(buffer tag, size_t count)
 {
     ask_curv_count(tag);
@@ -111,24 +111,32 @@ static void numbers_of(const uint8_t *bytes, size_t len, int32_t raw[7])
     }
 }
 
-/* Writes what a granted para tag says, into buffers of its length, one less and one more. */
+/* Writes what a granted para tag says, into buffers of one byte less, one more and its length, and reads it back. */
 static void write_para(size_t type, const uint8_t *bytes, size_t len)
 {
+    buffer out = bytes_out(len);
     int32_t raw[7];
     numbers_of(bytes, len, raw);
-    for (size_t n = len - 1; n <= len + 1; n++)
-        ask_para_write(type, raw, bytes_out(n));
+    ask_para_write(type, raw, bytes_out(len - 1));
+    ask_para_write(type, raw, bytes_out(len + 1));
+    ask_para_write(type, raw, out);
+    EXPECT(memcmp(out.read, bytes, len) == 0);
+    read_para(out);
 }
 
+/* The same of a curv tag. */
 static void write_curv(const uint8_t *tag, size_t count)
 {
-    buffer table = lent(room_for(count, SECOND, LONG_SECOND), count, 2);
+    buffer table = lent_by_length(SECOND, LONG_SECOND, count, 2), out = bytes_out(12 + 2 * count);
     for (size_t i = 0; i < count; i++) {
         uint16_t entry = (uint16_t)(tag[12 + 2 * i] << 8 | tag[13 + 2 * i]);
         memcpy(table.write + 2 * i, &entry, 2);
     }
-    for (size_t n = 11 + 2 * count; n <= 13 + 2 * count; n++)
-        ask_curv_write(table, bytes_out(n));
+    ask_curv_write(table, bytes_out(11 + 2 * count));
+    ask_curv_write(table, bytes_out(13 + 2 * count));
+    ask_curv_write(table, out);
+    EXPECT(memcmp(out.read, tag, 12 + 2 * count) == 0);
+    ask_curv_read(out, lent_by_length(FIRST, LONG_FIRST, count, 2));
 }
 
 /* ---- The groups ---- */
@@ -158,7 +166,7 @@ static void para_layouts(void)
     for (size_t i = 0; i < PARAS; i++) {
         buffer tag = tag_of(paras[i].bytes, paras[i].len);
         read_para(tag);
-        EXPECT(curve_bits_are(bg_para_curve(tag.read, tag.count), paras[i].curve));
+        EXPECT(curve_bits_are(ref_para_curve(tag.read, tag.count), paras[i].curve));
         write_para(paras[i].bytes[9], paras[i].bytes, paras[i].len);
     }
 }
@@ -209,7 +217,7 @@ static void curv_lengths(void)
     for (size_t i = 0; i < CURVS; i++)
         for (size_t n = 0; n <= curvs[i].len + 4; n++)
             read_curv(tag_of(curvs[i].bytes, n), i);
-    /* Of the longest tag only the head is put anew where each length begins, for speed: what follows is refused unread. */
+    /* Of the longest tag, for speed, only the head is put where each length begins: what follows is refused unread. */
     memcpy(lent(LONG_FIRST, 131088, 1).write, most(), 131088);
     for (size_t n = 0; n <= most_bytes + 4; n++) {
         buffer tag = lent(LONG_FIRST, n, 1);
@@ -229,28 +237,33 @@ static void para_lengths(void)
         }
 }
 
-/* Counts about 65,536 and 2^32, with totals that suit them, that do not, and that would if either were cut to 16 or 32 bits. */
+/*
+ * Counts about 65,536 and 2^32, with totals that suit them, that do not, and that would if the count, the total or
+ * twice the count were cut to 16 or 32 bits.
+ */
 static void curv_counts(void)
 {
-    static const uint32_t counts[] = {0,      1,          2,          32767,      32768,      65534,      65535,     65536,
-                                      65537,  65538,      131071,     131072,     131073,     0x7ffffffe, 0x7fffffff, 0x80000000,
-                                      0x80000001, 0x80000002, 0x80010000, 0xfffffffa, 0xfffffffe, 0xffffffff};
-    static const size_t totals[] = {0,     10,     11,     12,     13,     14,     15,     16,     17,    65546,
-                                    65547, 65548,  131078, 131080, 131082, 131083, 131084, 131085, 131086, 131087,
-                                    131088, 262154, 262156, 262158};
+    static const uint32_t counts[] = {
+        0, 1, 2, 32767, 32768, 65534, 65535, 65536, 65537, 65538, 131071, 131072, 131073, 0x7ffffffe, 0x7fffffff,
+        0x80000000, 0x80000001, 0x80000002, 0x80010000, 0xfffffffa, 0xfffffffe, 0xffffffff,
+    };
+    static const size_t totals[] = {
+        0, 10, 11, 12, 13, 14, 15, 16, 17, 65546, 65547, 65548, 131078, 131080, 131082, 131083, 131084, 131085, 131086,
+        131087, 131088, 262154, 262156, 262158,
+    };
     for (size_t c = 0; c < sizeof counts / sizeof *counts; c++)
         for (size_t t = 0; t < sizeof totals / sizeof *totals; t++) {
             uint8_t head[12] = "curv";
             buffer tag = lent(LONG_FIRST, totals[t], 1);
             for (size_t k = 0; k < 4; k++)
                 head[8 + k] = (uint8_t)(counts[c] >> (24 - 8 * k));
-            if (tag.write != NULL)
+            if (tag.count > 0)
                 memcpy(tag.write, head, tag.count < 12 ? tag.count : 12);
             read_curv(tag, counts[c] > 65536 ? 65536 : counts[c]);
         }
 }
 
-/* A tag that is to be refused with this number, by hand and by the reference. */
+/* A tag that is to be refused with this number. */
 struct refused {
     uint32_t number;
     size_t len;
@@ -279,7 +292,7 @@ static void curv_in_two_ways(void)
     };
     for (size_t i = 0; i < sizeof tags / sizeof *tags; i++) {
         buffer tag = tag_of((const uint8_t *)tags[i].bytes, tags[i].len);
-        EXPECT(bg_curv_count(tag.read, tag.count).refusal == tags[i].number);
+        EXPECT(ref_curv_count(tag.read, tag.count).refusal == tags[i].number);
         read_curv(tag, 0);
     }
 }
@@ -309,17 +322,17 @@ static void para_in_two_ways(void)
     };
     for (size_t i = 0; i < sizeof tags / sizeof *tags; i++) {
         buffer tag = tag_of((const uint8_t *)tags[i].bytes, tags[i].len);
-        EXPECT(bg_para_read(tag.read, tag.count).refusal == tags[i].number);
+        EXPECT(ref_para_read(tag.read, tag.count).refusal == tags[i].number);
         read_para(tag);
     }
 }
 
-/* Buffers of every other length: 6 last; the curv writer's 1 before it, and the para writer's 11 at any width of the type. */
+/* Buffers of other lengths: 6, and before it the curv writer's 1, and the para writer's 11 at any width of the type. */
 static void buffers(void)
 {
     static const size_t lengths[] = {0, 11, 12, 13, 14, 16, 24, 28, 32, 40, 131083, 131084, 131085, 131086, 131087};
     static const size_t tables[] = {0, 1, 2, 65535, 65536, 65537, 131072, LONGEST};
-    static const size_t types[] = {0, 1, 2, 3, 4, 5, 255, 256, 257, 65536, (size_t)1 << 32, SIZE_MAX};
+    static const size_t types[] = {0, 1, 2, 3, 4, 5, 255, 256, 257, 65536, 65537, (size_t)1 << 32, SIZE_MAX};
     static const int32_t raw[7] = {1, 2, 3, 4, 5, 6, 7};
     enum { LENGTHS = sizeof lengths / sizeof *lengths };
     for (size_t n = 0; n <= 5; n++)
@@ -332,9 +345,57 @@ static void buffers(void)
             ask_para_write(types[t], raw, bytes_out(lengths[n]));
 }
 
+/* Lengths past 2^32, of each buffer of each export, which would do if they were cut to 32 bits. */
+static void vast(void)
+{
+    static const uint16_t rising[4] = {1, 2, 3, 4};
+    static const int32_t raw[7] = {1, 2, 3, 4, 5, 6, 7};
+    buffer two = lent(FIRST, 2, 2), row = lent(SECOND, 2, 2), floats = lent(SECOND, 2, 4);
+    memcpy(two.write, rising, 4);
+    memset(floats.write, 0, 8);
+    for (size_t more = 0; more <= 7; more++) {
+        buffer table = lent_vast(more, 2, rising, 8), out = lent(OUT, more, 2), longs = lent(OUT, more, 4);
+        ask_lut_interp_linear16(table, 9);
+        ask_lut_interp_linear16_row(table, row, lent(OUT, 2, 2));
+        ask_lut_interp_linear16_row(two, table, out);
+        ask_lut_interp_linear16_row(two, lent(SECOND, more, 2), table);
+        ask_bake(table, lent(LONG_OUT, 65536, 2));
+        ask_lut_interp_linear_gamma_impl(table, 2, 8, 1);
+        ask_start(table);
+        ask_accept(table);
+        ask_nudge(table, 0, 1);
+        ask_least_input(table, 1);
+        ask_least_input_row(table, row, lent(OUT, 2, 4));
+        ask_least_input_row(two, table, longs);
+        ask_lut_inverse_interp16(table, 1);
+        ask_invert_lut(table, lent(OUT, 2, 2));
+        ask_invert_lut(two, table);
+        ask_lut_interp_linear_float(lent_vast(more, 4, rising, 0), 1);
+        ask_lut_interp_linear(table, 1);
+        ask_passthrough_table_impl(lent_vast(more, 4, rising, 0));
+        ask_parametric_curve_new(lent_vast(more, 4, rising, 0));
+        ask_compare_parametric(lent_vast(more, 4, rising, 0), floats);
+        ask_is_curve_monotonic(table, true);
+        ask_is_curve_degenerated(table);
+        ask_curv_write(table, lent(OUT, 12 + 2 * more, 1));
+    }
+    ask_bake(two, lent_vast(65536, 2, rising, 8));
+    ask_house_fill(lent_vast(1024, 2, rising, 8));
+    for (size_t n = 0; n < CURVS; n++) {
+        buffer tag = lent_vast(curvs[n].len, 1, curvs[n].bytes, curvs[n].len);
+        read_curv(tag, n);
+        ask_curv_read(tag_of(curvs[n].bytes, curvs[n].len), lent_vast(n, 2, rising, 0));
+        ask_curv_write(lent(FIRST, n, 2), lent_vast(12 + 2 * n, 1, rising, 0));
+    }
+    for (size_t t = 0; t < TYPES; t++) {
+        read_para(lent_vast(paras[t].len, 1, paras[t].bytes, paras[t].len));
+        ask_para_write(t, raw, lent_vast(paras[t].len, 1, rising, 0));
+    }
+}
+
 /* ---- f64 to the nearest f32 ---- */
 
-enum { ROUNDED = 200000 };
+static unsigned long numbers;
 
 static void ask_rounded(uint64_t bits)
 {
@@ -356,13 +417,13 @@ static uint64_t near_half(uint64_t digits, unsigned places, uint64_t w)
 
 static void any_pattern(void)
 {
-    for (size_t i = 0; i < ROUNDED; i++)
+    for (size_t i = 0; i < numbers; i++)
         ask_rounded(word());
 }
 
 static void normal_ties(void)
 {
-    for (size_t i = 0; i < ROUNDED; i++) {
+    for (size_t i = 0; i < numbers; i++) {
         uint64_t w = word();
         ask_rounded(packed(w, 897 + (w >> 52) % 254, near_half(w, 29, w)));
     }
@@ -371,7 +432,7 @@ static void normal_ties(void)
 /* Below the normal numbers, down to half of the smallest. */
 static void subnormal_ties(void)
 {
-    for (size_t i = 0; i < ROUNDED; i++) {
+    for (size_t i = 0; i < numbers; i++) {
         uint64_t w = word();
         unsigned exponent = 872 + (unsigned)((w >> 52) % 25);
         ask_rounded(packed(w, exponent, near_half(w, 926 - exponent, w)));
@@ -380,7 +441,7 @@ static void subnormal_ties(void)
 
 static void largest(void)
 {
-    for (size_t i = 0; i < ROUNDED; i++) {
+    for (size_t i = 0; i < numbers; i++) {
         uint64_t w = word();
         ask_rounded(packed(w, 1149 + (w >> 52) % 3, near_half((UINT64_C(1) << 52) - 1, 29, w)));
     }
@@ -388,15 +449,15 @@ static void largest(void)
 
 static void special(void)
 {
-    for (size_t i = 0; i < ROUNDED; i++) {
+    for (size_t i = 0; i < numbers; i++) {
         uint64_t w = word();
         ask_rounded(packed(w, 2047 * (w % 2), w % 4 < 2 ? 0 : w));
     }
 }
 
 /*
- * Below 2^24 every number is a float itself. Above, those that matter are at a tie and next to one: of each power of two
- * the first, the last and any. The rest are any numbers, and each half with the other half all zeros or all ones.
+ * Below 2^24 every number is a float itself. Above, those that matter are at a tie and next to one: of each power of
+ * two the first, the last and any. The rest are each half with the other all zeros or all ones, and any numbers.
  */
 static void signed_16_16(void)
 {
@@ -415,8 +476,9 @@ static void signed_16_16(void)
         ask_s15_fixed16_number_to_float((int32_t)(half << 16));
         ask_s15_fixed16_number_to_float((int32_t)(half << 16 | 0xffff));
         ask_s15_fixed16_number_to_float((int32_t)(0xffff0000 | half));
-        ask_s15_fixed16_number_to_float((int32_t)word());
     }
+    for (size_t i = 0; i < numbers; i++)
+        ask_s15_fixed16_number_to_float((int32_t)word());
 }
 
 static void unsigned_8_8(void)
@@ -425,9 +487,33 @@ static void unsigned_8_8(void)
         ask_u8_fixed_8number_to_float((uint16_t)x);
 }
 
-void sweeps(void)
+/* Document 01's thirteen numbers, of the reference. */
+static void thirteen(void)
 {
+    static const uint16_t straight[2] = {0, 65535}, one[1] = {1000}, bent[3] = {0, 100, 65535}, back[2] = {65535, 0};
+    static const uint16_t low[2] = {10, 20}, full[2] = {65535, 65535};
+    uint16_t three[3];
+    EXPECT(ref_lut_interp_linear16(straight, 2, drive(12345)).density.value == 12345);
+    EXPECT(ref_lut_interp_linear16(one, 1, drive(65535)).density.value == 1000);
+    EXPECT(ref_lut_interp_linear16(bent, 3, drive(32767)).density.value == 99);
+    EXPECT(ref_lut_interp_linear16(bent, 3, drive(32768)).density.value == 100);
+    EXPECT(ref_lut_interp_linear16(back, 2, drive(1)).density.value == 65534);
+    EXPECT(ref_lut_inverse_interp16(bent, 3, density(0)).drive.value == 255);
+    EXPECT(ref_least_input(bent, 3, density(0)).drive.value == 0);
+    EXPECT(ref_least_input(bent, 3, density(100)).drive.value == 32768);
+    EXPECT(ref_least_input(bent, 3, density(65534)).drive.value == 65535);
+    EXPECT(ref_least_input(low, 2, density(21)).refusal == 5);
+    EXPECT(ref_lut_inverse_interp16(full, 2, density(7)).drive.value == 0);
+    EXPECT(ref_lut_interp_linear_gamma_impl(straight, 2, 2, 10, 1).code == 1024);
+    EXPECT(ref_start(three, 3) == 0 && three[0] == 0 && three[1] == 32768 && three[2] == 65535);
+}
+
+void sweeps(unsigned long of_each_class)
+{
+    numbers = of_each_class;
     seed(1);
+    open_rooms();
+    subject("the reference", thirteen);
     subject("curv layouts", curv_layouts);
     subject("para layouts", para_layouts);
     subject("curv, each byte changed", each_curv_byte);
@@ -438,6 +524,7 @@ void sweeps(void)
     subject("curv, wrong in two ways", curv_in_two_ways);
     subject("para, wrong in two ways", para_in_two_ways);
     subject("buffers of tags", buffers);
+    subject("lengths past 2^32", vast);
     subject("f64 of any pattern", any_pattern);
     subject("f64 at a tie, or next to one", normal_ties);
     subject("f64 at a tie below the normal f32s", subnormal_ties);
