@@ -3,7 +3,8 @@
 # Says of each request how many answers it has and how many of them are given otherwise, and shows five of these, on
 # the shortest tables. The status is 1 where there are any, and 2 where the transcript is cut short, its answers are not
 # as many as it says, or there are fewer or more lines of answers than requests.
-# Where the transcript says no number of a request, as of `table`, its lines are counted.
+# Where the transcript says no number of a request, as of `table`, its lines are counted. Answers are compared as text,
+# with "" beside them, since awk takes 00 and 0 for the same number.
 
 # How many answers a line is: as many as a list has items, otherwise one.
 function answers(line) {
@@ -47,7 +48,7 @@ function compare(wanted, got,    n, i, first, w, g, q) {
     split(wanted, w, ",")
     split(got, g, ",")
     for (i = n; i > 0; i--)
-        if (w[i] != g[i]) {
+        if (w[i] "" != g[i] "") {
             differing[word]++
             first = i
         }
@@ -78,7 +79,7 @@ waits && /^[>#]/ { trouble("line " NR " should be the answer to " cut(request));
 }
 (getline got < given) <= 0 { trouble("the answers end before that of line " NR ", " cut(request)); exit }
 { counted[word] += answers($0); waits = 0 }
-$0 != got { compare($0, got) }
+$0 "" != got "" { compare($0, got) }
 
 END {
     if (!status && !ended) trouble("the transcript is cut short")
