@@ -1,0 +1,17 @@
+-- `pass_line` is safe and ends. Assumes nothing.
+use borrow.Author.Needs.{needs}
+use Rattle.groat_lines.proofs.words.pass_line.Statement.{statement}
+use Rattle.groat_lines.proofs.words.pass_line.Tie as tie
+
+abbrev Inv-loop : tie.InvT-loop
+Inv-loop io₀ here₀ turns₀ io here turns = Unit {0}
+
+abbrev μ-loop : tie.MeasureT-loop
+μ-loop io₀ here₀ turns₀ io here turns = turns
+
+pub pass-line-spec : {M : Type 1} → statement M
+pass-line-spec =
+    tie.close
+    (tie.spec
+    Inv-loop μ-loop (λ c. search needs) (λ c κs. search needs) (λ c κs. search needs) (λ c. search needs)
+    (λ c. search needs) (λ c. search needs) (λ c. search needs) (λ c. search needs))

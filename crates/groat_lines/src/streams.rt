@@ -1,0 +1,242 @@
+// Where the bench program stands, its standard input and its standard output. Input comes in byte by byte out of one half of a buffer, which is filled
+// again whenever it is used up. Output is gathered in the other half, and written out when that is full and wherever `settled` is called: before the
+// program may have to wait for input, so that nobody waits for an answer. Of each half 65,535 bytes are used, so that how many are is any 16-bit number.
+ghost use mathlib.Core.Path.{_≡_};
+ghost use Prim.Native.Nat.{_≤_, _<_};
+
+// Input in the first 65,536 places, output in the others.
+pub type Streams = [u8; 131072];
+
+const HALF: usize = 65536;
+
+// What `now` is where a line ends and where the input ends; below them it is a byte.
+pub const LINE_END: u16 = 256;
+
+pub const INPUT_END: u16 = 257;
+
+const CARRIAGE_RETURN: u16 = b'\r' as u16;
+
+// What goes from call to call by value. The buffers themselves are lent beside it.
+pub struct State {
+    // the byte of the line that is looked at, or one of the two ends
+    pub now: u16,
+    // the name that was read last, as a number (words.rt), and whether the row of requests that was looked at last has it
+    pub name: u64,
+    pub asked: bool,
+    // what was read last: a number, or how many items or bytes
+    pub got: u64,
+    // what is wrong with the line: 0 for nothing, or a number of problems.rt
+    pub problem: u8,
+    // whether a write to standard output has failed: nothing more is written then
+    pub broken: bool,
+    // how many places of their buffers the kept table, floats and tag have
+    pub table: usize,
+    pub floats: usize,
+    pub tag: usize,
+    // the next byte of the input, and how many there are
+    at: u16,
+    held: u16,
+    // how many bytes of output wait
+    waiting: u16,
+}
+
+// Before the first byte: nothing is kept.
+pub fn opened() -> State {
+    State {
+        now: LINE_END,
+        name: 0,
+        asked: false,
+        got: 0,
+        problem: 0,
+        broken: false,
+        table: 0,
+        floats: 0,
+        tag: 0,
+        at: 0,
+        held: 0,
+        waiting: 0,
+    }
+}
+
+fn wide(x: u16) -> usize
+    ensures { λ r. ⌜ (r ≡ x) × (r ≤ 65535) ⌝ }
+{
+    x as usize
+}
+
+fn widened(byte: u8) -> u16 {
+    byte as u16
+}
+
+// Reads into the first 65,535 places.
+fn read_into(all: &mut [u8]) -> u16 {
+    if all.len() < 65535 {
+        return 0;
+    }
+    let part = &mut all[0..65535];
+    let got = libc::read(libc::STDIN_FILENO, part);
+    io::count(got, part) as u16
+}
+
+// With a byte at hand, unless the input has ended.
+fn ready(s: State, io: &mut Streams) -> State {
+    if s.at < s.held {
+        return s;
+    }
+    let mut after = s;
+    after.at = 0;
+    after.held = read_into(io);
+    after
+}
+
+// Whether the next byte can be looked at without waiting for input.
+pub fn at_hand(s: State) -> bool {
+    s.at < s.held
+}
+
+fn looking_at(s: State, now: u16) -> State {
+    let mut after = s;
+    after.now = now;
+    after
+}
+
+// Past the byte at hand.
+fn passed(s: State) -> State
+    requires { ⌜ s .at < s .held ⌝ }
+{
+    let mut after = s;
+    after.at = s.at + 1;
+    after
+}
+
+// After a carriage return, which is dropped where the line or the input ends with it.
+fn after_return(s: State, io: &mut Streams) -> State {
+    let here = ready(s, io);
+    if here.at >= here.held {
+        return looking_at(here, INPUT_END);
+    }
+    let at = here.at;
+    if io[wide(at)] == b'\n' {
+        return looking_at(passed(here), LINE_END);
+    }
+    looking_at(here, CARRIAGE_RETURN)
+}
+
+// Looks at the next byte.
+pub fn advance(s: State, io: &mut Streams) -> State {
+    let here = ready(s, io);
+    if here.at >= here.held {
+        return looking_at(here, INPUT_END);
+    }
+    let at = here.at;
+    let byte = io[wide(at)];
+    if byte == b'\n' {
+        return looking_at(passed(here), LINE_END);
+    }
+    if byte == b'\r' {
+        return after_return(passed(here), io);
+    }
+    looking_at(passed(here), widened(byte))
+}
+
+// Whether a text could be written. Where it could not, standard error says why.
+fn sent(text: &[u8]) -> bool {
+    if io::write_all(libc::STDOUT_FILENO, text) {
+        return true;
+    }
+    os::fail(b"groat: standard output");
+    false
+}
+
+fn emptied(s: State, broken: bool) -> State
+    ensures { λ r. ⌜ r .waiting ≡ 0 ⌝ }
+{
+    let mut after = s;
+    after.waiting = 0;
+    after.broken = broken;
+    after
+}
+
+// Writes out what waits.
+fn flush(s: State, io: &Streams) -> State
+    ensures { λ r. ⌜ r .waiting ≡ 0 ⌝ }
+{
+    if s.broken {
+        return emptied(s, true);
+    }
+    let end = HALF + wide(s.waiting);
+    let text: &[u8] = io;
+    emptied(s, !sent(&text[HALF..end]))
+}
+
+fn has_line_end(text: &[u8]) -> bool {
+    let mut i = 0;
+    while i < text.len() {
+        if text[i] == b'\n' {
+            return true;
+        }
+        i += 1;
+    }
+    false
+}
+
+// Whether a line, from here on, can be read to its end without waiting for input.
+fn holds_line(s: State, io: &Streams) -> bool {
+    if s.at >= s.held {
+        return false;
+    }
+    let text: &[u8] = io;
+    let from = wide(s.at);
+    let to = wide(s.held);
+    has_line_end(&text[from..to])
+}
+
+// With nothing waiting to be written, unless a whole line is at hand: many short lines are answered by few writes, and none waits for input.
+pub fn settled(s: State, io: &Streams) -> State {
+    if holds_line(s, io) {
+        return s;
+    }
+    flush(s, io)
+}
+
+// With room for one byte of output.
+fn roomy(s: State, io: &Streams) -> State
+    ensures { λ r. ⌜ r .waiting < 65535 ⌝ }
+{
+    if s.waiting < 65535 {
+        return s;
+    }
+    flush(s, io)
+}
+
+pub fn put_byte(s: State, io: &mut Streams, byte: u8) -> State {
+    let here = roomy(s, io);
+    let at = here.waiting;
+    io[HALF + wide(at)] = byte;
+    let mut after = here;
+    after.waiting = at + 1;
+    after
+}
+
+pub fn put(s: State, io: &mut Streams, text: &[u8]) -> State {
+    let mut after = s;
+    let mut i = 0;
+    while i < text.len() {
+        after = put_byte(after, io, text[i]);
+        i += 1;
+    }
+    after
+}
+
+pub fn put_decimal(s: State, io: &mut Streams, n: u64) -> State {
+    let mut digits = [0u8; 20];
+    let k = io::decimal(n, &mut digits);
+    put(s, io, &digits[..k])
+}
+
+// As many hexadecimal digits as `width` says.
+pub fn put_hex(s: State, io: &mut Streams, n: u64, width: usize) -> State {
+    let mut digits = [0u8; 16];
+    let k = io::hex(n, width, &mut digits);
+    put(s, io, &digits[..k])
+}
