@@ -202,6 +202,10 @@ void open_rooms(void)
         rooms[i].write = map(file, room_bytes[i], PROT_READ | PROT_WRITE);
         rooms[i].read = map(file, room_bytes[i], PROT_READ);
         close(file);
+        for (size_t at = 0; at < room_bytes[i]; at += 8) {
+            uint64_t any = word();
+            memcpy(rooms[i].write + at, &any, 8);
+        }
     }
     memset(&action, 0, sizeof action);
     action.sa_sigaction = fault;

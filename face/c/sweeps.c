@@ -1,8 +1,8 @@
 /*
- * Sweeps: every ICC layout, each byte of each short tag changed in every way, every length about a tag's own, counts at
- * their limits, tags and calls that are wrong in two ways, outputs of every telling length, lengths past 2^32, and
- * numbers rounded to float against C's own cast. Where an answer stands here as a number, the reference is held to it,
- * as the exports are to the reference.
+ * Sweeps: every ICC layout, each byte of each short tag changed in every way, every two bytes of its head in some, every
+ * length about a tag's own, counts at their limits, tags and calls that are wrong in two ways, outputs of every telling
+ * length, lengths past 2^32, and numbers rounded to float against C's own cast. Where an answer stands here as a number,
+ * the reference is held to it, as the exports are to the reference.
  */
 #include "asks.h"
 #include "reference.h"
@@ -63,6 +63,15 @@ static const uint8_t *most(void)
         bytes[13 + 2 * i] = (uint8_t)i;
     }
     return bytes;
+}
+
+/* A long tag with this head. Its entries are what stands in its room: any, for speed. */
+static buffer long_tag(const uint8_t *head, size_t len)
+{
+    buffer tag = lent(LONG_FIRST, len, 1);
+    if (len > 0)
+        memcpy(tag.write, head, len < 12 ? len : 12);
+    return tag;
 }
 
 /* Lends the first bytes of a tag. */
@@ -190,6 +199,30 @@ static void each_byte(const struct tag *tag, void (*ask)(const uint8_t *bytes, s
         }
 }
 
+/*
+ * Every two bytes of a tag's head changed together, so that tests which add them up, or stop at the first, show: each to
+ * 0, 1, where a sign turns, the largest, and its own neighbours.
+ */
+static void each_pair(const struct tag *tag, void (*ask)(const uint8_t *bytes, size_t len))
+{
+    static const uint8_t values[] = {0, 1, 0x7f, 0x80, 0xff};
+    enum { VALUES = sizeof values, WAYS = VALUES + 2 };
+    uint8_t changed[12][WAYS], bytes[40];
+    for (size_t i = 0; i < 12; i++) {
+        memcpy(changed[i], values, VALUES);
+        changed[i][VALUES] = (uint8_t)(tag->bytes[i] - 1);
+        changed[i][VALUES + 1] = (uint8_t)(tag->bytes[i] + 1);
+    }
+    for (size_t i = 0; i < 12; i++)
+        for (size_t k = i + 1; k < 12; k++)
+            for (size_t way = 0; way < WAYS * WAYS; way++) {
+                memcpy(bytes, tag->bytes, sizeof bytes);
+                bytes[i] = changed[i][way / WAYS];
+                bytes[k] = changed[k][way % WAYS];
+                ask(bytes, tag->len);
+            }
+}
+
 /* A tag that still has its head is written back too. */
 static void curv_changed(const uint8_t *bytes, size_t len)
 {
@@ -206,10 +239,29 @@ static void para_changed(const uint8_t *bytes, size_t len)
         write_para(bytes[9], bytes, len);
 }
 
+static void most_changed(const uint8_t *head, size_t len)
+{
+    read_curv(long_tag(head, len), 65536);
+}
+
 static void each_curv_byte(void)
 {
     for (size_t i = 0; i < CURVS; i++)
         each_byte(&curvs[i], curv_changed);
+}
+
+static void each_curv_pair(void)
+{
+    static const struct tag longest = {12 + 2 * 65536, "curv\0\0\0\0\0\1\0\0", {0}};
+    for (size_t i = 0; i < CURVS; i++)
+        each_pair(&curvs[i], curv_changed);
+    each_pair(&longest, most_changed);
+}
+
+static void each_para_pair(void)
+{
+    for (size_t i = 0; i < TYPES; i++)
+        each_pair(&paras[i], para_changed);
 }
 
 static void each_para_byte(void)
@@ -224,14 +276,8 @@ static void curv_lengths(void)
     for (size_t i = 0; i < CURVS; i++)
         for (size_t n = 0; n <= curvs[i].len + 4; n++)
             read_curv(tag_of(curvs[i].bytes, n), i);
-    /* Of the longest tag, for speed, only the head is put where each length begins: what follows is refused unread. */
-    memcpy(lent(LONG_FIRST, 131088, 1).write, most(), 131088);
-    for (size_t n = 0; n <= most_bytes + 4; n++) {
-        buffer tag = lent(LONG_FIRST, n, 1);
-        if (n > 0)
-            memcpy(tag.write, most(), n < 12 ? n : 12);
-        read_curv(tag, 65536);
-    }
+    for (size_t n = 0; n <= most_bytes + 4; n++)
+        read_curv(long_tag(most(), n), 65536);
 }
 
 static void para_lengths(void)
@@ -261,12 +307,9 @@ static void curv_counts(void)
     for (size_t c = 0; c < sizeof counts / sizeof *counts; c++)
         for (size_t t = 0; t < sizeof totals / sizeof *totals; t++) {
             uint8_t head[12] = "curv";
-            buffer tag = lent(LONG_FIRST, totals[t], 1);
             for (size_t k = 0; k < 4; k++)
                 head[8 + k] = (uint8_t)(counts[c] >> (24 - 8 * k));
-            if (tag.count > 0)
-                memcpy(tag.write, head, tag.count < 12 ? tag.count : 12);
-            read_curv(tag, counts[c] > 65536 ? 65536 : counts[c]);
+            read_curv(long_tag(head, totals[t]), counts[c] > 65536 ? 65536 : counts[c]);
         }
 }
 
@@ -597,6 +640,8 @@ void sweeps(unsigned long of_each_class)
     subject("para layouts", para_layouts);
     subject("curv, each byte changed", each_curv_byte);
     subject("para, each byte changed", each_para_byte);
+    subject("curv, two bytes changed", each_curv_pair);
+    subject("para, two bytes changed", each_para_pair);
     subject("curv, cut short and padded", curv_lengths);
     subject("para, cut short and padded", para_lengths);
     subject("curv counts", curv_counts);
