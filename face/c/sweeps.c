@@ -1,8 +1,8 @@
 /*
- * Sweeps: every ICC layout, each byte of each short tag changed in every way, every two bytes of its head in some, every
+ * Sweeps: every ICC layout, each byte of each short tag changed in every way and every two of its head in some, every
  * length about a tag's own, counts at their limits, tags and calls that are wrong in two ways, outputs of every telling
- * length, lengths past 2^32, and numbers rounded to float against C's own cast. Where an answer stands here as a number,
- * the reference is held to it, as the exports are to the reference.
+ * length, lengths past 2^32, and numbers rounded to float against C's own cast. Where an answer stands here as a
+ * number, the reference is held to it, as the exports are to the reference.
  */
 #include "asks.h"
 #include "reference.h"
@@ -200,8 +200,8 @@ static void each_byte(const struct tag *tag, void (*ask)(const uint8_t *bytes, s
 }
 
 /*
- * Every two bytes of a tag's head changed together, so that tests which add them up, or stop at the first, show: each to
- * 0, 1, where a sign turns, the largest, and its own neighbours.
+ * Every two bytes of a tag's head changed together, since a test that adds bytes up, or tests them in another order,
+ * is right of each by itself: to 0, 1, about where a sign turns, the largest, and each byte's own neighbours.
  */
 static void each_pair(const struct tag *tag, void (*ask)(const uint8_t *bytes, size_t len))
 {
