@@ -283,7 +283,7 @@ static void any_lut_interp_linear16_row(void)
 
 static void any_bake(void)
 {
-    buffer b = table(), out = any_out(8, 2);
+    buffer b = table(), out = any_out(32, 2);
     ask_bake(b, out);
 }
 

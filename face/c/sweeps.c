@@ -239,15 +239,21 @@ static void para_changed(const uint8_t *bytes, size_t len)
         write_para(bytes[9], bytes, len);
 }
 
-static void most_changed(const uint8_t *head, size_t len)
-{
-    read_curv(long_tag(head, len), 65536);
-}
-
 static void each_curv_byte(void)
 {
     for (size_t i = 0; i < CURVS; i++)
         each_byte(&curvs[i], curv_changed);
+}
+
+static void each_para_byte(void)
+{
+    for (size_t i = 0; i < PARAS; i++)
+        each_byte(&paras[i], para_changed);
+}
+
+static void most_changed(const uint8_t *head, size_t len)
+{
+    read_curv(long_tag(head, len), 65536);
 }
 
 static void each_curv_pair(void)
@@ -262,12 +268,6 @@ static void each_para_pair(void)
 {
     for (size_t i = 0; i < TYPES; i++)
         each_pair(&paras[i], para_changed);
-}
-
-static void each_para_byte(void)
-{
-    for (size_t i = 0; i < PARAS; i++)
-        each_byte(&paras[i], para_changed);
 }
 
 /* Every length from none to four too many. */
