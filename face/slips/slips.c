@@ -64,6 +64,8 @@ bg_count __wrap_bg_curv_count(const uint8_t *tag, size_t n)
     if (SLIP("bg_curv_count: the reserved bytes are added up") && c.refusal == 10 && n <= 16 &&
         added_up(tag + 4, 4) == 0)
         return __real_bg_curv_count(copy, n);
+    if (SLIP("bg_curv_count: a byte before the tag is read") && n > 0 && ((volatile const uint8_t *)tag)[-1] == 1)
+        return (bg_count){1, 0};
     if (SLIP("bg_curv_count: the last reserved byte is not tested") && c.refusal == 10 && big_endian(tag + 4, 3) == 0 &&
         n == 12 + 2 * big_endian(tag + 8, 4))
         return (bg_count){0, big_endian(tag + 8, 4)};
@@ -106,6 +108,8 @@ uint32_t __wrap_bg_curv_read(const uint8_t *tag, size_t n, uint16_t *out, size_t
         out[out_len - 1] = 0x5a5a;
     if (SLIP("bg_curv_read: one entry too many is written") && r == 0 && out_len > 0)
         out[out_len] = 0;
+    if (SLIP("bg_curv_read: the entry before the output is written") && r == 0 && out_len > 0)
+        out[-1] = 0;
     if (SLIP("bg_curv_read: a byte past the tag is read") && r == 0 && ((volatile const uint8_t *)tag)[n] == 1)
         return 1;
     return r;
@@ -119,6 +123,8 @@ bg_part __wrap_bg_curv_part(const uint8_t *tag, size_t n)
         p.len /= 2;
     if (SLIP("bg_curv_part: a refused part begins at 12") && p.refusal != 0)
         p.start = 12;
+    if (SLIP("bg_curv_part: a tag at an odd address is refused") && (uintptr_t)tag % 2 == 1 && p.refusal == 0)
+        return (bg_part){8, 0, 0};
     return p;
 }
 
@@ -385,6 +391,8 @@ bg_real __wrap_bg_lut_interp_linear(const uint16_t *table, size_t n, double x)
         return (bg_real){13, 0};
     if (SLIP("bg_lut_interp_linear: an empty table is refused") && n == 0 && r.refusal == 0)
         return (bg_real){1, 0};
+    if (SLIP("bg_lut_interp_linear: an empty table is read") && n == 0 && *(volatile const uint16_t *)table == 1)
+        return (bg_real){1, 0};
     return r;
 }
 
@@ -430,6 +438,8 @@ bg_monotony __wrap_bg_is_curve_monotonic(const uint16_t *table, size_t n, bool r
     bg_monotony m = __real_bg_is_curve_monotonic(table, n, rising);
     if (SLIP("bg_is_curve_monotonic: one in twenty is still few") && m.refusal == 0)
         m.yes = n < 2 || 20 * m.violations <= n;
+    if (SLIP("bg_is_curve_monotonic: the length is cut to 20 bits"))
+        return __real_bg_is_curve_monotonic(table, n % (1 << 20), rising);
     return m;
 }
 
@@ -464,6 +474,8 @@ uint32_t __wrap_bg_house_fill(uint16_t *out, size_t out_len)
     if (SLIP("bg_house_fill: one entry is off by one") && r == 0)
         out[700]++;
     if (SLIP("bg_house_fill: 1,025 entries are let through") && out_len == 1025)
+        return 0;
+    if (SLIP("bg_house_fill: an empty output is let through") && out_len == 0)
         return 0;
     return r;
 }
