@@ -80,10 +80,13 @@ static unsigned char *map(int file, size_t bytes, int protection)
 
 buffer lent(enum place place, size_t count, size_t size)
 {
-    size_t room = room_bytes[place], gap = below(2) == 0 ? 0 : below(32) * size;
-    size_t at = count == 0 ? room : below(2) == 0 ? gap : room - count * size - gap;
-    if (count == 0 && below(2) == 0)
+    size_t at_end = below(2), gap = below(64), room = room_bytes[place], at = room;
+    if (count == 0 && at_end == 0)
         return (buffer){NULL, NULL, 0, size, place};
+    if (gap > 31)
+        gap = 0;
+    if (count > 0)
+        at = at_end == 0 ? gap * size : room - (count + gap) * size;
     return (buffer){rooms[place].write + at, rooms[place].read + at, count, size, place};
 }
 
@@ -130,13 +133,6 @@ static void show_call(void)
         printf(" 0x%" PRIx64, now.numbers[i]);
 }
 
-/* Whether another report is wanted: a wrong export would give thousands. */
-static bool report(void)
-{
-    static unsigned long reports[ASK_COUNT];
-    return ++reports[now.export] <= 5;
-}
-
 static void show_numbers(const char *whose, const uint64_t *numbers, size_t count)
 {
     printf("%s", whose);
@@ -144,18 +140,33 @@ static void show_numbers(const char *whose, const uint64_t *numbers, size_t coun
         printf(" 0x%" PRIx64, numbers[i]);
 }
 
+static void show_answers(const uint64_t *got, const uint64_t *want, size_t count)
+{
+    show_numbers(" answers", got, count);
+    show_numbers(", should be", want, count);
+    printf("\n");
+}
+
+/*
+ * Counts a question, which is one expectation whatever is drawn for it, and shows the call where it is answered
+ * otherwise. Then the difference is to be shown too, but not often: a wrong export would give thousands.
+ */
+static bool is_shown(bool holds, uint32_t want)
+{
+    static unsigned long shown[ASK_COUNT];
+    tally(holds);
+    given[now.export] |= 1u << want;
+    if (holds || ++shown[now.export] > 5)
+        return false;
+    show_call();
+    return true;
+}
+
 /* Holds an answer, place by place; the first is the number of the refusal. */
 static void hold(const uint64_t *got, const uint64_t *want, size_t count)
 {
-    bool same = memcmp(got, want, count * sizeof *got) == 0;
-    tally(same);
-    given[now.export] |= 1u << want[0];
-    if (!same && report()) {
-        show_call();
-        show_numbers(" answers", got, count);
-        show_numbers(", should be", want, count);
-        printf("\n");
-    }
+    if (is_shown(memcmp(got, want, count * sizeof *got) == 0, (uint32_t)want[0]))
+        show_answers(got, want, count);
 }
 
 /* Something was read or written that was not lent for it. */
@@ -191,6 +202,10 @@ void open_rooms(void)
         rooms[i].write = map(file, room_bytes[i], PROT_READ | PROT_WRITE);
         rooms[i].read = map(file, room_bytes[i], PROT_READ);
         close(file);
+        for (size_t at = 0; at < room_bytes[i]; at += 8) {
+            uint64_t any = word();
+            memcpy(rooms[i].write + at, &any, 8);
+        }
     }
     memset(&action, 0, sizeof action);
     action.sa_sigaction = fault;
@@ -216,7 +231,10 @@ static unsigned char *guards_to(const buffer *b)
     return end - to < GUARD ? end : to + GUARD;
 }
 
-/* What a call is lent to write: filled and writable, or read-only where the call is to be refused. */
+/*
+ * What a call is lent to write: filled and writable. A call that is to be refused is lent it read-only, so that it
+ * faults at the first byte that it writes, even with what stood there.
+ */
 static void *ready(const buffer *b, uint32_t refusal)
 {
     if (refusal != 0 || b->write == NULL)
@@ -231,6 +249,7 @@ static void *ready_changed(const buffer *b, uint32_t refusal)
 {
     if (refusal != 0 || b->write == NULL)
         return (void *)(uintptr_t)b->read;
+    filler = (unsigned char)(filler + 0x35);
     memset(guards_from(b), filler, (size_t)(b->write - guards_from(b)));
     memset(b->write + b->count * b->size, filler, (size_t)(guards_to(b) - (b->write + b->count * b->size)));
     return b->write;
@@ -243,30 +262,36 @@ static bool filled(const unsigned char *from, const unsigned char *to)
     return from == to;
 }
 
-/* Holds what a granted call wrote to what the reference did, and the bytes about it to what they were. */
-static void wrote(const buffer *b, uint32_t refusal)
+static void show_first_difference(const buffer *b)
 {
     const unsigned char *want = wanted;
-    size_t bytes = b->count * b->size, i = 0;
-    bool same, kept;
-    if (refusal != 0 || b->write == NULL)
+    uint32_t x = 0, y = 0;
+    size_t i = 0;
+    while (memcmp(b->write + i, want + i, b->size) == 0)
+        i += b->size;
+    memcpy(&x, b->write + i, b->size);
+    memcpy(&y, want + i, b->size);
+    printf(" writes 0x%" PRIx32 " at %zu, should be 0x%" PRIx32 "\n", x, i / b->size, y);
+}
+
+/*
+ * Holds the number that a call gives; and where that is 0, what it wrote to what the reference did, and the bytes about
+ * its output to what they were.
+ */
+static void hold_output(uint32_t got, uint32_t want, const buffer *b)
+{
+    bool wrote = want == 0 && b->write != NULL;
+    size_t bytes = b->count * b->size;
+    bool same = !wrote || memcmp(b->write, wanted, bytes) == 0;
+    bool kept = !wrote || (filled(guards_from(b), b->write) && filled(b->write + bytes, guards_to(b)));
+    if (!is_shown(got == want && same && kept, want))
         return;
-    same = memcmp(b->write, want, bytes) == 0;
-    kept = filled(guards_from(b), b->write) && filled(b->write + bytes, guards_to(b));
-    tally(same && kept);
-    if ((same && kept) || !report())
-        return;
-    show_call();
-    if (!kept)
-        printf(" writes beside its output\n");
-    else {
-        uint32_t x = 0, y = 0;
-        while (memcmp(b->write + i, want + i, b->size) == 0)
-            i += b->size;
-        memcpy(&x, b->write + i, b->size);
-        memcpy(&y, want + i, b->size);
-        printf(" writes 0x%" PRIx32 " at %zu, should be 0x%" PRIx32 "\n", x, i / b->size, y);
-    }
+    if (got != want)
+        show_answers((const uint64_t[]){got}, (const uint64_t[]){want}, 1);
+    else if (!kept)
+        printf(" writes beside its output, which it should not\n");
+    else
+        show_first_difference(b);
 }
 
 /* ---- Answers as lists of numbers ---- */
@@ -378,17 +403,15 @@ void ask_lut_interp_linear16_row(buffer table, buffer positions, buffer out)
     uint32_t want = ref_lut_interp_linear16_row(U16(table), table.count, U16(positions), positions.count,
                                                 wanted, out.count);
     at(ASK_lut_interp_linear16_row, &table, &positions, &out);
-    hold_done(bg_lut_interp_linear16_row(U16(table), table.count, U16(positions), positions.count, ready(&out, want),
-                                         out.count), want);
-    wrote(&out, want);
+    hold_output(bg_lut_interp_linear16_row(U16(table), table.count, U16(positions), positions.count, ready(&out, want),
+                                           out.count), want, &out);
 }
 
 void ask_bake(buffer table, buffer out)
 {
     uint32_t want = ref_bake(U16(table), table.count, wanted, out.count);
     at(ASK_bake, &table, &out, NULL);
-    hold_done(bg_bake(U16(table), table.count, ready(&out, want), out.count), want);
-    wrote(&out, want);
+    hold_output(bg_bake(U16(table), table.count, ready(&out, want), out.count), want, &out);
 }
 
 void ask_lut_interp_linear_gamma_impl(buffer table, size_t inputs, size_t depth, size_t input)
@@ -406,8 +429,7 @@ void ask_start(buffer table)
 {
     uint32_t want = ref_start(wanted, table.count);
     at(ASK_start, &table, NULL, NULL);
-    hold_done(bg_start(ready(&table, want), table.count), want);
-    wrote(&table, want);
+    hold_output(bg_start(ready(&table, want), table.count), want, &table);
 }
 
 void ask_accept(buffer table)
@@ -425,8 +447,7 @@ void ask_nudge(buffer table, size_t index, uint16_t value)
     at(ASK_nudge, &table, NULL, NULL);
     with(index);
     with(value);
-    hold_done(bg_nudge(ready_changed(&table, want), table.count, index, density(value)), want);
-    wrote(&table, want);
+    hold_output(bg_nudge(ready_changed(&table, want), table.count, index, density(value)), want, &table);
 }
 
 void ask_least_input(buffer table, uint16_t value)
@@ -441,9 +462,8 @@ void ask_least_input_row(buffer table, buffer densities, buffer out)
 {
     uint32_t want = ref_least_input_row(U16(table), table.count, U16(densities), densities.count, wanted, out.count);
     at(ASK_least_input_row, &table, &densities, &out);
-    hold_done(bg_least_input_row(U16(table), table.count, U16(densities), densities.count, ready(&out, want),
-                                 out.count), want);
-    wrote(&out, want);
+    hold_output(bg_least_input_row(U16(table), table.count, U16(densities), densities.count, ready(&out, want),
+                                   out.count), want, &out);
 }
 
 void ask_lut_inverse_interp16(buffer table, uint16_t value)
@@ -458,8 +478,7 @@ void ask_invert_lut(buffer table, buffer out)
 {
     uint32_t want = ref_invert_lut(U16(table), table.count, wanted, out.count);
     at(ASK_invert_lut, &table, &out, NULL);
-    hold_done(bg_invert_lut(U16(table), table.count, ready(&out, want), out.count), want);
-    wrote(&out, want);
+    hold_output(bg_invert_lut(U16(table), table.count, ready(&out, want), out.count), want, &out);
 }
 
 void ask_lut_interp_linear_float(buffer table, float x)
@@ -481,8 +500,7 @@ void ask_passthrough_table_impl(buffer out)
 {
     uint32_t want = ref_passthrough_table_impl(wanted, out.count);
     at(ASK_passthrough_table_impl, &out, NULL, NULL);
-    hold_done(bg_passthrough_table_impl(ready(&out, want), out.count), want);
-    wrote(&out, want);
+    hold_output(bg_passthrough_table_impl(ready(&out, want), out.count), want, &out);
 }
 
 void ask_nearest_f64_to_f32(double x)
@@ -547,8 +565,7 @@ void ask_house_fill(buffer out)
 {
     uint32_t want = ref_house_fill(wanted, out.count);
     at(ASK_house_fill, &out, NULL, NULL);
-    hold_done(bg_house_fill(ready(&out, want), out.count), want);
-    wrote(&out, want);
+    hold_output(bg_house_fill(ready(&out, want), out.count), want, &out);
 }
 
 void ask_curv_count(buffer tag)
@@ -563,8 +580,7 @@ void ask_curv_read(buffer tag, buffer out)
 {
     uint32_t want = ref_curv_read(tag.read, tag.count, wanted, out.count);
     at(ASK_curv_read, &tag, &out, NULL);
-    hold_done(bg_curv_read(tag.read, tag.count, ready(&out, want), out.count), want);
-    wrote(&out, want);
+    hold_output(bg_curv_read(tag.read, tag.count, ready(&out, want), out.count), want, &out);
 }
 
 void ask_curv_part(buffer tag)
@@ -579,8 +595,7 @@ void ask_curv_write(buffer table, buffer out)
 {
     uint32_t want = ref_curv_write(U16(table), table.count, wanted, out.count);
     at(ASK_curv_write, &table, &out, NULL);
-    hold_done(bg_curv_write(U16(table), table.count, ready(&out, want), out.count), want);
-    wrote(&out, want);
+    hold_output(bg_curv_write(U16(table), table.count, ready(&out, want), out.count), want, &out);
 }
 
 void ask_para_read(buffer tag)
@@ -606,6 +621,5 @@ void ask_para_write(size_t function_type, const int32_t *raw, buffer out)
     with(function_type);
     for (size_t k = 0; k < 7; k++)
         with((uint32_t)raw[k]);
-    hold_done(bg_para_write(function_type, numbers, ready(&out, want), out.count), want);
-    wrote(&out, want);
+    hold_output(bg_para_write(function_type, numbers, ready(&out, want), out.count), want, &out);
 }

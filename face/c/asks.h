@@ -77,7 +77,7 @@ buffer lent_by_length(enum place brief, enum place lengthy, size_t count, size_t
 /* Lends 2^32 and `more` elements that begin with the bytes given. All others are 0, and none can be written. */
 buffer lent_vast(size_t more, size_t size, const void *first, size_t first_bytes);
 
-/* Makes the rooms, and has a fault printed with the call that made it. */
+/* Makes the rooms, each full of any bytes, and has a fault printed with the call that made it. */
 void open_rooms(void);
 
 /* One question of each export. A refused call is lent its output read-only. */

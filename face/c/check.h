@@ -1,4 +1,4 @@
-/* What the face's tests share: a count of what was expected, and lent buffers that show every write which should not be. */
+/* What the face's tests share: a count of what was expected, and lent buffers that show every write beside them. */
 #ifndef CHECK_H
 #define CHECK_H
 
@@ -12,8 +12,8 @@ void expect(bool holds, const char *what, const char *file, int line);
 void tally(bool holds);
 
 /*
- * Lends a buffer of `count` elements of `size` bytes, filled with a pattern. Guard words stand before it, and after it a page
- * that can be neither read nor written. Lending nothing gives a null pointer.
+ * Lends a buffer of `count` elements of `size` bytes, filled with a pattern. Guard words stand before it, and after it
+ * a page that can be neither read nor written. Lending nothing gives a null pointer.
  */
 void *lend(size_t count, size_t size);
 #define LEND(type, count) ((type *)lend((count), sizeof(type)))

@@ -10,8 +10,8 @@ static const bg_raw raw = {131072, -98304, 16384, -8192, INT32_MIN, INT32_MAX, 1
 
 static bool raw_is(bg_raw got, const int32_t *want)
 {
-    return got.g == want[0] && got.a == want[1] && got.b == want[2] && got.c == want[3] && got.d == want[4] && got.e == want[5] &&
-           got.f == want[6];
+    return got.g == want[0] && got.a == want[1] && got.b == want[2] && got.c == want[3] && got.d == want[4] &&
+           got.e == want[5] && got.f == want[6];
 }
 
 static bool para_is(bg_para p, uint32_t refusal, size_t count)

@@ -168,13 +168,25 @@ static uint16_t on_the_line(const uint16_t *table, size_t n, int64_t x, uint16_t
     return f < 0 ? 0 : f >= 65535.0 ? 65535 : (uint16_t)(f + 0.5);
 }
 
-static uint16_t inverse(const uint16_t *table, size_t n, uint16_t v)
+/* How many entries are 0 at the start of a table, and 65535 at its end. */
+struct ends {
+    int64_t zeros, full;
+};
+
+static struct ends ends_of(const uint16_t *table, size_t n)
 {
-    int64_t z = 0, w = 0, last = (int64_t)n - 1, l = 1, r = 65536, x = 0;
-    while (z <= last && table[z] == 0)
-        z++;
-    while (w <= last && table[last - w] == 65535)
-        w++;
+    struct ends ends = {0, 0};
+    int64_t last = (int64_t)n - 1;
+    while (ends.zeros <= last && table[ends.zeros] == 0)
+        ends.zeros++;
+    while (ends.full <= last && table[last - ends.full] == 65535)
+        ends.full++;
+    return ends;
+}
+
+static uint16_t inverse(const uint16_t *table, size_t n, struct ends ends, uint16_t v)
+{
+    int64_t z = ends.zeros, w = ends.full, last = (int64_t)n - 1, l = 1, r = 65536, x = 0;
     if (v == 0 && (z == 0 || z > 1 || w > 1))
         return 0;
     if (z > 1)
@@ -201,18 +213,21 @@ bg_position ref_lut_inverse_interp16(const uint16_t *table, size_t n, bg_density
 {
     if (wrong_length(n))
         return (bg_position){1, {0}};
-    return (bg_position){0, {inverse(table, n, density.value)}};
+    return (bg_position){0, {inverse(table, n, ends_of(table, n), density.value)}};
 }
 
+/* The ends are counted once: a table of 65,536 zeros has as many to count as it has entries. */
 uint32_t ref_invert_lut(const uint16_t *table, size_t n, uint16_t *out, size_t out_len)
 {
     double s = 65535.0 / ((double)out_len - 1.0);
+    struct ends ends;
     if (wrong_length(n))
         return 1;
     if (out_len < 2 || out_len > MOST)
         return 12;
+    ends = ends_of(table, n);
     for (size_t i = 0; i < out_len; i++)
-        out[i] = inverse(table, n, (uint16_t)((double)i * s + 0.5));
+        out[i] = inverse(table, n, ends, (uint16_t)((double)i * s + 0.5));
     return 0;
 }
 

@@ -1,7 +1,8 @@
 /*
- * Sweeps: every ICC layout, each byte of each short tag changed in every way, every length about a tag's own, counts at
- * their limits, tags and calls that are wrong in two ways, lengths past 2^32, and numbers rounded to float against C's
- * own cast. Where an answer stands here as a number, the reference is held to it, as the exports are to the reference.
+ * Sweeps: every ICC layout, each byte of each short tag changed in every way and every two of its head in some, every
+ * length about a tag's own, counts at their limits, tags and calls that are wrong in two ways, outputs of every telling
+ * length, lengths past 2^32, and numbers rounded to float against C's own cast. Where an answer stands here as a
+ * number, the reference is held to it, as the exports are to the reference.
  */
 #include "asks.h"
 #include "reference.h"
@@ -64,6 +65,15 @@ static const uint8_t *most(void)
     return bytes;
 }
 
+/* A long tag with this head. Its entries are what stands in its room: any, for speed. */
+static buffer long_tag(const uint8_t *head, size_t len)
+{
+    buffer tag = lent(LONG_FIRST, len, 1);
+    if (len > 0)
+        memcpy(tag.write, head, len < 12 ? len : 12);
+    return tag;
+}
+
 /* Lends the first bytes of a tag. */
 static buffer tag_of(const uint8_t *bytes, size_t len)
 {
@@ -81,6 +91,12 @@ static buffer entries_out(size_t count)
 static buffer bytes_out(size_t count)
 {
     return lent_by_length(OUT, LONG_OUT, count, 1);
+}
+
+/* 32-bit numbers or floats. */
+static buffer words_out(size_t count)
+{
+    return lent_by_length(OUT, LONG_OUT, count, 4);
 }
 
 /* Every call that reads a curv tag, with buffers for 0 to 3 entries, about as many as its count, and for the most. */
@@ -183,6 +199,30 @@ static void each_byte(const struct tag *tag, void (*ask)(const uint8_t *bytes, s
         }
 }
 
+/*
+ * Every two bytes of a tag's head changed together, since a test that adds bytes up, or tests them in another order,
+ * is right of each by itself: to 0, 1, about where a sign turns, the largest, and each byte's own neighbours.
+ */
+static void each_pair(const struct tag *tag, void (*ask)(const uint8_t *bytes, size_t len))
+{
+    static const uint8_t values[] = {0, 1, 0x7f, 0x80, 0xff};
+    enum { VALUES = sizeof values, WAYS = VALUES + 2 };
+    uint8_t changed[12][WAYS], bytes[40];
+    for (size_t i = 0; i < 12; i++) {
+        memcpy(changed[i], values, VALUES);
+        changed[i][VALUES] = (uint8_t)(tag->bytes[i] - 1);
+        changed[i][VALUES + 1] = (uint8_t)(tag->bytes[i] + 1);
+    }
+    for (size_t i = 0; i < 12; i++)
+        for (size_t k = i + 1; k < 12; k++)
+            for (size_t way = 0; way < WAYS * WAYS; way++) {
+                memcpy(bytes, tag->bytes, sizeof bytes);
+                bytes[i] = changed[i][way / WAYS];
+                bytes[k] = changed[k][way % WAYS];
+                ask(bytes, tag->len);
+            }
+}
+
 /* A tag that still has its head is written back too. */
 static void curv_changed(const uint8_t *bytes, size_t len)
 {
@@ -211,20 +251,33 @@ static void each_para_byte(void)
         each_byte(&paras[i], para_changed);
 }
 
+static void most_changed(const uint8_t *head, size_t len)
+{
+    read_curv(long_tag(head, len), 65536);
+}
+
+static void each_curv_pair(void)
+{
+    static const struct tag longest = {12 + 2 * 65536, "curv\0\0\0\0\0\1\0\0", {0}};
+    for (size_t i = 0; i < CURVS; i++)
+        each_pair(&curvs[i], curv_changed);
+    each_pair(&longest, most_changed);
+}
+
+static void each_para_pair(void)
+{
+    for (size_t i = 0; i < TYPES; i++)
+        each_pair(&paras[i], para_changed);
+}
+
 /* Every length from none to four too many. */
 static void curv_lengths(void)
 {
     for (size_t i = 0; i < CURVS; i++)
         for (size_t n = 0; n <= curvs[i].len + 4; n++)
             read_curv(tag_of(curvs[i].bytes, n), i);
-    /* Of the longest tag, for speed, only the head is put where each length begins: what follows is refused unread. */
-    memcpy(lent(LONG_FIRST, 131088, 1).write, most(), 131088);
-    for (size_t n = 0; n <= most_bytes + 4; n++) {
-        buffer tag = lent(LONG_FIRST, n, 1);
-        if (n > 0)
-            memcpy(tag.write, most(), n < 12 ? n : 12);
-        read_curv(tag, 65536);
-    }
+    for (size_t n = 0; n <= most_bytes + 4; n++)
+        read_curv(long_tag(most(), n), 65536);
 }
 
 static void para_lengths(void)
@@ -254,12 +307,9 @@ static void curv_counts(void)
     for (size_t c = 0; c < sizeof counts / sizeof *counts; c++)
         for (size_t t = 0; t < sizeof totals / sizeof *totals; t++) {
             uint8_t head[12] = "curv";
-            buffer tag = lent(LONG_FIRST, totals[t], 1);
             for (size_t k = 0; k < 4; k++)
                 head[8 + k] = (uint8_t)(counts[c] >> (24 - 8 * k));
-            if (tag.count > 0)
-                memcpy(tag.write, head, tag.count < 12 ? tag.count : 12);
-            read_curv(tag, counts[c] > 65536 ? 65536 : counts[c]);
+            read_curv(long_tag(head, totals[t]), counts[c] > 65536 ? 65536 : counts[c]);
         }
 }
 
@@ -335,14 +385,86 @@ static void buffers(void)
     static const size_t types[] = {0, 1, 2, 3, 4, 5, 255, 256, 257, 65536, 65537, (size_t)1 << 32, SIZE_MAX};
     static const int32_t raw[7] = {1, 2, 3, 4, 5, 6, 7};
     enum { LENGTHS = sizeof lengths / sizeof *lengths };
+    buffer two = tag_of(curvs[2].bytes, 16);
     for (size_t n = 0; n <= 5; n++)
-        ask_curv_read(tag_of(curvs[2].bytes, 16), entries_out(n));
+        ask_curv_read(two, entries_out(n));
     for (size_t t = 0; t < sizeof tables / sizeof *tables; t++)
-        for (size_t n = 0; n < LENGTHS; n++)
-            ask_curv_write(lent(LONG_SECOND, tables[t], 2), bytes_out(lengths[n]));
+        for (size_t n = 0; n < LENGTHS; n++) {
+            buffer table = lent(LONG_SECOND, tables[t], 2), out = bytes_out(lengths[n]);
+            ask_curv_write(table, out);
+        }
     for (size_t t = 0; t < sizeof types / sizeof *types; t++)
         for (size_t n = 0; n < LENGTHS; n++)
             ask_para_write(types[t], raw, bytes_out(lengths[n]));
+}
+
+/* Lengths of tables, rows and outputs: none, too few, as many as are needed or as there may be, and too many. */
+static const size_t telling_lengths[] = {0, 1, 2, 3, 1023, 1024, 1025, 65535, 65536, 65537, LONGEST};
+enum { TELLING_LENGTHS = sizeof telling_lengths / sizeof *telling_lengths };
+
+/* The calls that fill an output from nothing. */
+static void fillers(void)
+{
+    for (size_t i = 0; i < TELLING_LENGTHS; i++) {
+        ask_start(entries_out(telling_lengths[i]));
+        ask_house_fill(entries_out(telling_lengths[i]));
+        ask_passthrough_table_impl(words_out(telling_lengths[i]));
+    }
+}
+
+/* Fills a lent table: entry i of n is 65535 i / n, cut, or so much below 65535. */
+static buffer slope(buffer b, bool rising)
+{
+    for (size_t i = 0; i < b.count; i++) {
+        uint16_t step = (uint16_t)(65535 * i / b.count), entry = (uint16_t)(rising ? step : 65535 - step);
+        memcpy(b.write + 2 * i, &entry, 2);
+    }
+    return b;
+}
+
+/* The calls that fill an output from a table, and the one that changes it. */
+static void from_table(buffer table)
+{
+    for (size_t i = 0; i < TELLING_LENGTHS; i++) {
+        ask_bake(table, entries_out(telling_lengths[i]));
+        ask_invert_lut(table, entries_out(telling_lengths[i]));
+    }
+    ask_nudge(table, table.count, 0);
+    ask_nudge(table, 0, 0);
+}
+
+/* The calls that fill an output from a table and a row. A row of 2^20 is left out: it would take long. */
+static void from_row(buffer table)
+{
+    for (size_t r = 0; r < TELLING_LENGTHS - 1; r++) {
+        buffer row = slope(lent_by_length(SECOND, LONG_SECOND, telling_lengths[r], 2), false);
+        for (size_t i = 0; i < TELLING_LENGTHS; i++) {
+            ask_lut_interp_linear16_row(table, row, entries_out(telling_lengths[i]));
+            ask_least_input_row(table, row, words_out(telling_lengths[i]));
+        }
+    }
+}
+
+static void outputs(void)
+{
+    static const size_t tables[] = {0, 1, 2, 65536, 65537, LONGEST};
+    fillers();
+    for (size_t t = 0; t < sizeof tables / sizeof *tables; t++)
+        for (int rising = 0; rising <= 1; rising++) {
+            buffer table = slope(lent_by_length(FIRST, LONG_FIRST, tables[t], 2), rising);
+            from_table(table);
+            from_row(table);
+        }
+}
+
+/* The longest table inverted to the longest where it is 0 or 65535 throughout: the Rust's own steps overflow here. */
+static void flat_inverses(void)
+{
+    for (int byte = 0; byte <= 0xff; byte += 0xff) {
+        buffer table = lent(LONG_FIRST, 65536, 2);
+        memset(table.write, byte, 2 * 65536);
+        ask_invert_lut(table, entries_out(65536));
+    }
 }
 
 /* Lengths past 2^32, of each buffer of each export, which would do if they were cut to 32 bits. */
@@ -518,12 +640,16 @@ void sweeps(unsigned long of_each_class)
     subject("para layouts", para_layouts);
     subject("curv, each byte changed", each_curv_byte);
     subject("para, each byte changed", each_para_byte);
+    subject("curv, two bytes changed", each_curv_pair);
+    subject("para, two bytes changed", each_para_pair);
     subject("curv, cut short and padded", curv_lengths);
     subject("para, cut short and padded", para_lengths);
     subject("curv counts", curv_counts);
     subject("curv, wrong in two ways", curv_in_two_ways);
     subject("para, wrong in two ways", para_in_two_ways);
     subject("buffers of tags", buffers);
+    subject("outputs of every length", outputs);
+    subject("flat tables inverted", flat_inverses);
     subject("lengths past 2^32", vast);
     subject("f64 of any pattern", any_pattern);
     subject("f64 at a tie, or next to one", normal_ties);

@@ -1,4 +1,7 @@
-/* Verdicts on a curve's shape. The edges are document 01's: 20 entries with one violation no, 21 yes; a run of 19 no, 20 yes. */
+/*
+ * Verdicts on a curve's shape. The edges are document 01's: 20 entries with one violation no, 21 yes; a run of 19 no,
+ * 20 yes.
+ */
 #include "check.h"
 
 static bool monotony_is(bg_monotony m, uint32_t refusal, bool yes, size_t violations)

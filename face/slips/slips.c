@@ -26,6 +26,15 @@ static size_t big_endian(const uint8_t *from, size_t bytes)
     return x;
 }
 
+/* The sum of some bytes, cut to a byte, as a careless test of them has it. */
+static uint8_t added_up(const void *from, size_t bytes)
+{
+    uint8_t sum = 0;
+    for (size_t i = 0; i < bytes; i++)
+        sum = (uint8_t)(sum + ((const uint8_t *)from)[i]);
+    return sum;
+}
+
 static float float_of(uint32_t bits)
 {
     float x;
@@ -46,6 +55,17 @@ bg_count __real_bg_curv_count(const uint8_t *tag, size_t n);
 bg_count __wrap_bg_curv_count(const uint8_t *tag, size_t n)
 {
     bg_count c = __real_bg_curv_count(tag, n);
+    uint8_t copy[16] = "curv";
+    if (n >= 12 && n <= 16)
+        memcpy(copy + 8, tag + 8, n - 8);
+    if (SLIP("bg_curv_count: the signature's bytes are added up") && c.refusal == 9 && n <= 16 &&
+        added_up(tag, 4) == added_up("curv", 4) && big_endian(tag + 4, 4) == 0)
+        return __real_bg_curv_count(copy, n);
+    if (SLIP("bg_curv_count: the reserved bytes are added up") && c.refusal == 10 && n <= 16 &&
+        added_up(tag + 4, 4) == 0)
+        return __real_bg_curv_count(copy, n);
+    if (SLIP("bg_curv_count: a byte before the tag is read") && n > 0 && ((volatile const uint8_t *)tag)[-1] == 1)
+        return (bg_count){1, 0};
     if (SLIP("bg_curv_count: the last reserved byte is not tested") && c.refusal == 10 && big_endian(tag + 4, 3) == 0 &&
         n == 12 + 2 * big_endian(tag + 8, 4))
         return (bg_count){0, big_endian(tag + 8, 4)};
@@ -88,6 +108,8 @@ uint32_t __wrap_bg_curv_read(const uint8_t *tag, size_t n, uint16_t *out, size_t
         out[out_len - 1] = 0x5a5a;
     if (SLIP("bg_curv_read: one entry too many is written") && r == 0 && out_len > 0)
         out[out_len] = 0;
+    if (SLIP("bg_curv_read: the entry before the output is written") && r == 0 && out_len > 0)
+        out[-1] = 0;
     if (SLIP("bg_curv_read: a byte past the tag is read") && r == 0 && ((volatile const uint8_t *)tag)[n] == 1)
         return 1;
     return r;
@@ -101,6 +123,8 @@ bg_part __wrap_bg_curv_part(const uint8_t *tag, size_t n)
         p.len /= 2;
     if (SLIP("bg_curv_part: a refused part begins at 12") && p.refusal != 0)
         p.start = 12;
+    if (SLIP("bg_curv_part: a tag at an odd address is refused") && (uintptr_t)tag % 2 == 1 && p.refusal == 0)
+        return (bg_part){8, 0, 0};
     return p;
 }
 
@@ -112,6 +136,8 @@ uint32_t __wrap_bg_curv_write(const uint16_t *table, size_t n, uint8_t *out, siz
         out[9] = 0;
     if (SLIP("bg_curv_write: 6 before 1") && r == 1 && out_len != 12 + 2 * n)
         return 6;
+    if (SLIP("bg_curv_write: a refused call writes the signature") && r != 0 && out_len >= 4)
+        memcpy(out, "curv", 4);
     return r;
 }
 
@@ -128,6 +154,12 @@ bg_para __wrap_bg_para_read(const uint8_t *tag, size_t n)
         return __real_bg_para_read(copy, 40);
     }
     if (SLIP("bg_para_read: the reserved bytes after the type are not tested") && p.refusal == 10 && n <= 40) {
+        memcpy(copy, tag, n);
+        copy[10] = copy[11] = 0;
+        return __real_bg_para_read(copy, n);
+    }
+    if (SLIP("bg_para_read: the reserved bytes after the type are added up") && p.refusal == 10 && n <= 40 &&
+        added_up(tag + 10, 2) == 0) {
         memcpy(copy, tag, n);
         copy[10] = copy[11] = 0;
         return __real_bg_para_read(copy, n);
@@ -155,6 +187,8 @@ uint32_t __wrap_bg_para_write(size_t type, bg_raw numbers, uint8_t *out, size_t 
 {
     if (SLIP("bg_para_write: the type is cut to 16 bits"))
         type &= 0xffff;
+    if (SLIP("bg_para_write: a refused call writes the signature") && out_len >= 4)
+        memcpy(out, "para", 4);
     return __real_bg_para_write(type, numbers, out, out_len);
 }
 
@@ -217,6 +251,8 @@ uint32_t __wrap_bg_lut_interp_linear16_row(const uint16_t *table, size_t n, cons
 {
     if (SLIP("bg_lut_interp_linear16_row: a longer output is let through") && out_len > m)
         out_len = m;
+    if (SLIP("bg_lut_interp_linear16_row: a refused call writes the last entry") && out_len > 0)
+        out[out_len - 1] = 0;
     return __real_bg_lut_interp_linear16_row(table, n, positions, m, out, out_len);
 }
 
@@ -226,6 +262,8 @@ uint32_t __wrap_bg_bake(const uint16_t *table, size_t n, uint16_t *out, size_t o
     uint32_t r = __real_bg_bake(table, n, out, out_len);
     if (SLIP("bg_bake: the last entry is the one before it") && r == 0)
         out[65535] = out[65534];
+    if (SLIP("bg_bake: a refused output of 65,537 is written") && out_len == 65537)
+        out[65536] = out[65535];
     return r;
 }
 
@@ -251,6 +289,8 @@ uint32_t __wrap_bg_start(uint16_t *table, size_t n)
     uint32_t r = __real_bg_start(table, n);
     for (size_t i = 0; i < n && r == 0 && SLIP("bg_start: rounded down"); i++)
         table[i] = (uint16_t)(65535 * i / (n - 1));
+    if (SLIP("bg_start: a refused table of 65,537 is changed at its end") && n == 65537)
+        table[65536] = 65535;
     return r;
 }
 
@@ -274,6 +314,8 @@ uint32_t __wrap_bg_nudge(uint16_t *table, size_t n, size_t index, bg_density den
         return 0;
     if (SLIP("bg_nudge: claims the change and makes none") && r == 0 && n > 20)
         table[index] = index > 0 ? table[index - 1] : 0;
+    if (SLIP("bg_nudge: a refused table of 65,537 is changed at its end") && n == 65537)
+        table[65536] = density.value;
     return r;
 }
 
@@ -306,6 +348,8 @@ uint32_t __wrap_bg_least_input_row(const uint16_t *table, size_t n, const uint16
     for (size_t i = 0; i < out_len && r == 0; i++)
         if (SLIP("bg_least_input_row: 65,535 where no position reaches") && out[i] == 65536)
             out[i] = 65535;
+    if (SLIP("bg_least_input_row: 2 before 6") && r == 6 && __real_bg_accept(table, n) == 2)
+        return 2;
     return r;
 }
 
@@ -317,6 +361,8 @@ uint32_t __wrap_bg_invert_lut(const uint16_t *table, size_t n, uint16_t *out, si
         bg_density asked = {(uint16_t)((double)i * (65535.0 / ((double)out_len - 1)))};
         out[i] = __real_bg_lut_inverse_interp16(table, n, asked).drive.value;
     }
+    if (SLIP("bg_invert_lut: 65,537 entries are let through") && r == 12 && out_len == 65537)
+        return 0;
     return r;
 }
 
@@ -345,6 +391,8 @@ bg_real __wrap_bg_lut_interp_linear(const uint16_t *table, size_t n, double x)
         return (bg_real){13, 0};
     if (SLIP("bg_lut_interp_linear: an empty table is refused") && n == 0 && r.refusal == 0)
         return (bg_real){1, 0};
+    if (SLIP("bg_lut_interp_linear: an empty table is read") && n == 0 && *(volatile const uint16_t *)table == 1)
+        return (bg_real){1, 0};
     return r;
 }
 
@@ -354,6 +402,8 @@ uint32_t __wrap_bg_passthrough_table_impl(float *out, size_t out_len)
     uint32_t r = __real_bg_passthrough_table_impl(out, out_len);
     for (size_t i = 0; i < out_len && r == 0 && SLIP("bg_passthrough_table_impl: worked in floats"); i++)
         out[i] = (float)i * (1.0f / (float)(out_len - 1));
+    if (SLIP("bg_passthrough_table_impl: the last of 65,536 is below 1") && r == 0 && out_len == 65536)
+        out[65535] = 0x1.fffffep-1f;
     return r;
 }
 
@@ -388,6 +438,8 @@ bg_monotony __wrap_bg_is_curve_monotonic(const uint16_t *table, size_t n, bool r
     bg_monotony m = __real_bg_is_curve_monotonic(table, n, rising);
     if (SLIP("bg_is_curve_monotonic: one in twenty is still few") && m.refusal == 0)
         m.yes = n < 2 || 20 * m.violations <= n;
+    if (SLIP("bg_is_curve_monotonic: the length is cut to 20 bits"))
+        return __real_bg_is_curve_monotonic(table, n % (1 << 20), rising);
     return m;
 }
 
@@ -421,6 +473,10 @@ uint32_t __wrap_bg_house_fill(uint16_t *out, size_t out_len)
     uint32_t r = __real_bg_house_fill(out, out_len);
     if (SLIP("bg_house_fill: one entry is off by one") && r == 0)
         out[700]++;
+    if (SLIP("bg_house_fill: 1,025 entries are let through") && out_len == 1025)
+        return 0;
+    if (SLIP("bg_house_fill: an empty output is let through") && out_len == 0)
+        return 0;
     return r;
 }
 
