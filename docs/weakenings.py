@@ -149,7 +149,7 @@ WEAKENINGS = [
         "`house::entries::curve` has no block",
         more("crates/house/src/lib.rt", "pub use entries::curve;\n"),
     ),
-    ("the face is called a program", "is the face", ("docs/PROMISES.md", "`narrowing`;", "`narrowing`; `brassgroat`;")),
+    ("the face is called a program", "is the face", ("docs/PROMISES.md", "no blocks:", "no blocks: `brassgroat`;")),
     # Pages that cite what is not there.
     ("an edit that is gone is cited", "`gone`", more("docs/HONESTY.md", "lookup/must-fail `gone`\n")),
     ("a law that is gone is cited", "`gone`", more("docs/SENTENCES.md", "table/proofs/Order `fact-test`,\n`gone`\n")),
@@ -185,7 +185,7 @@ def try_all(check, faults):
 
     unnoticed, root = [], os.getcwd()
     with tempfile.TemporaryDirectory() as room:
-        for part in ("crates", "docs", "oracle"):
+        for part in ("crates", "docs", "face", "oracle", "tests"):
             shutil.copytree(part, f"{room}/{part}")
         shutil.copy("crates.txt", room)
         os.chdir(room)

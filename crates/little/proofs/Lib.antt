@@ -1,2 +1,0 @@
--- `Places`: the sum of two places, and a place past the end.
-pub mod Places

@@ -1,2 +1,0 @@
--- `Little`: little-endian numbers.
-pub mod Little
