@@ -1,7 +1,10 @@
 // The bench program: the whole library at a prompt. It reads standard input to its end, one request a line, and answers each with a line.
 // docs/GROAT.md is its language.
+use groat_answers::asks_help;
+use groat_answers::before_rows;
 use groat_lines::Codes;
 use groat_lines::INPUT_END;
+use groat_lines::NO_SUCH_REQUEST;
 use groat_lines::State;
 use groat_lines::Streams;
 use groat_lines::Tag;
@@ -10,12 +13,13 @@ use groat_lines::ends_line;
 use groat_lines::next_line;
 use groat_lines::opened;
 use groat_lines::pass_line;
+use groat_lines::put;
 use groat_lines::put_byte;
 use groat_lines::put_problem;
 use groat_lines::read_name;
 use groat_lines::settled;
 use groat_lines::skip_spaces;
-use groat_requests::answer;
+use groat_lines::wrong;
 
 const COMMENT: u16 = b'#' as u16;
 
@@ -36,6 +40,29 @@ fn put_end(s: State, io: &mut Streams) -> State {
 fn turn(s: State, io: &mut Streams) -> State {
     let end = pass_line(settled(s, io), io);
     next_line(settled(end, io), io)
+}
+
+// Answers the request that the line names, past the rows of all that there are.
+fn answer(
+    s: State,
+    io: &mut Streams,
+    codes: &mut Codes,
+    table: &mut [u16; 65537],
+    floats: &mut [f32; 65537],
+    tag: &mut Tag,
+) -> State {
+    let mut here = groat_curves::answer(before_rows(s, io), io, codes, table, floats);
+    if here.asked {
+        return here;
+    }
+    here = groat_tags::answer(here, io, codes, table, tag);
+    if here.asked {
+        return here;
+    }
+    if asks_help(here) {
+        return put(here, io, b"help: these lines");
+    }
+    wrong(here, NO_SUCH_REQUEST)
 }
 
 // One line, up to the first byte of the next.

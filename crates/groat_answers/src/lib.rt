@@ -1,10 +1,30 @@
-// How answers are written: `ok`, `refused N`, and lists of numbers, floats and bytes.
+// What the requests share: their rows (help.rt), what is kept (kept.rt), and, here, how answers are written: `ok`, `refused N`, and lists of numbers,
+// floats and bytes.
+mod help;
+mod kept;
+
 use groat_lines::State;
 use groat_lines::Streams;
 use groat_lines::put;
 use groat_lines::put_byte;
 use groat_lines::put_decimal;
 use groat_lines::put_hex;
+pub use help::asks_help;
+pub use help::at_row;
+pub use help::before_rows;
+pub use kept::bytes;
+pub use kept::bytes_mut;
+pub use kept::entries;
+pub use kept::entries_mut;
+pub use kept::table_after;
+pub use kept::tag_after;
+pub use kept::values;
+pub use kept::values_mut;
+pub use kept::with_floats;
+pub use kept::with_table;
+pub use kept::with_tag;
+use parametric::ParametricCurve;
+use parametric::Unified;
 use table::Done;
 use table::Refusal;
 use table::number;
@@ -120,4 +140,27 @@ pub fn put_yes_no(s: State, io: &mut Streams, answer: bool) -> State {
         return put(s, io, b"yes");
     }
     put(s, io, b"no")
+}
+
+fn put_parted(s: State, io: &mut Streams, x: f32) -> State {
+    let here = put_byte(s, io, b',');
+    put_float(here, io, x)
+}
+
+fn put_curve(s: State, io: &mut Streams, curve: ParametricCurve) -> State {
+    let mut here = put_float(s, io, curve.g);
+    here = put_parted(here, io, curve.a);
+    here = put_parted(here, io, curve.b);
+    here = put_parted(here, io, curve.c);
+    here = put_parted(here, io, curve.d);
+    here = put_parted(here, io, curve.e);
+    put_parted(here, io, curve.f)
+}
+
+// The seven floats of a curve.
+pub fn put_unified(s: State, io: &mut Streams, answer: Unified) -> State {
+    match answer {
+        Unified::Curve(curve) => put_curve(s, io, curve),
+        Unified::Refused(why) => put_refused(s, io, why),
+    }
 }

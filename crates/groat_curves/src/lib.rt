@@ -1,0 +1,28 @@
+// The requests on curves and floats. Each has a row: the line that `help` shows of it, which begins with its name and its words, and below that what answers it.
+// A new request is a row more, and a function of its own.
+mod floats;
+mod questions;
+mod tables;
+
+use groat_lines::Codes;
+use groat_lines::State;
+use groat_lines::Streams;
+
+// Answers the line where it names one of these requests. What it gives the table or the floats is kept.
+pub fn answer(
+    s: State,
+    io: &mut Streams,
+    codes: &mut Codes,
+    table: &mut [u16; 65537],
+    floats: &mut [f32; 65537],
+) -> State {
+    let mut here = tables::answer(s, io, codes, table);
+    if here.asked {
+        return here;
+    }
+    here = questions::answer(here, io, codes, table, floats);
+    if here.asked {
+        return here;
+    }
+    floats::answer(here, io, codes, table, floats)
+}

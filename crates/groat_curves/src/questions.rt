@@ -1,0 +1,495 @@
+// The requests that ask of the table and of the kept floats: a list of questions, each handed to the library's call, with the answers written as the questions come in.
+use crate::tables::hold;
+use gamma::Coded;
+use groat_answers::at_row;
+use groat_answers::entries;
+use groat_answers::entries_mut;
+use groat_answers::put_comma;
+use groat_answers::put_float;
+use groat_answers::put_refused;
+use groat_answers::put_refused_item;
+use groat_answers::put_short;
+use groat_answers::put_shorts;
+use groat_answers::values;
+use groat_lines::Codes;
+use groat_lines::List;
+use groat_lines::Place;
+use groat_lines::State;
+use groat_lines::Streams;
+use groat_lines::double;
+use groat_lines::fill;
+use groat_lines::goes_on;
+use groat_lines::is_fine;
+use groat_lines::last_items;
+use groat_lines::last_number;
+use groat_lines::no_more_words;
+use groat_lines::open_list;
+use groat_lines::put_byte;
+use groat_lines::put_decimal;
+use groat_lines::raw;
+use groat_lines::read_number;
+use groat_lines::settled;
+use groat_lines::short;
+use groat_lines::single;
+use interp::Interpolated;
+use table::Density;
+use table::Done;
+use table::Drive;
+use table::Looked;
+use table::Refusal;
+use table::Sought;
+
+// What is asked of each item of a list.
+pub enum Question {
+    Lookup,
+    LeastInput,
+    Inverse,
+    Gamma,
+    HouseEntry,
+    LookupF64,
+    LookupF32,
+    Fixed8,
+    Raw16,
+    Narrow,
+}
+
+// A question with how its items are written and what stands before them: `gamma`'s N and DEPTH.
+struct Asked {
+    question: Question,
+    place: Place,
+    inputs: usize,
+    depth: usize,
+}
+
+pub fn answer(
+    s: State,
+    io: &mut Streams,
+    codes: &mut Codes,
+    table: &[u16],
+    floats: &[f32],
+) -> State {
+    let mut here = at_row(s, io, b"lookup LIST: the density at each drive");
+    if here.asked {
+        return ask(
+            Question::Lookup,
+            Place::Short,
+            here,
+            io,
+            codes,
+            table,
+            floats,
+        );
+    }
+    here = at_row(
+        here,
+        io,
+        b"least LIST: the least drive that reaches each density",
+    );
+    if here.asked {
+        return ask(
+            Question::LeastInput,
+            Place::Short,
+            here,
+            io,
+            codes,
+            table,
+            floats,
+        );
+    }
+    here = at_row(
+        here,
+        io,
+        b"row LIST: the densities at the drives, by one call",
+    );
+    if here.asked {
+        return look_up_row(here, io, codes, entries(table, here.table));
+    }
+    here = at_row(
+        here,
+        io,
+        b"leastrow LIST: the least drives of the densities, by one call; 65536 for none",
+    );
+    if here.asked {
+        return least_row(here, io, codes, entries(table, here.table));
+    }
+    here = at_row(
+        here,
+        io,
+        b"inverse LIST: the Rust's inverse of each density",
+    );
+    if here.asked {
+        return ask(
+            Question::Inverse,
+            Place::Short,
+            here,
+            io,
+            codes,
+            table,
+            floats,
+        );
+    }
+    here = at_row(here, io, b"invert M: the inverted table of M entries");
+    if here.asked {
+        return invert(here, io, entries(table, here.table));
+    }
+    here = at_row(
+        here,
+        io,
+        b"gamma N DEPTH LIST: the integer gamma lookup at each input",
+    );
+    if here.asked {
+        return ask_gamma(here, io, codes, table, floats);
+    }
+    here = at_row(
+        here,
+        io,
+        b"house LIST: the house curve's entry at each index",
+    );
+    if here.asked {
+        return ask(
+            Question::HouseEntry,
+            Place::Any,
+            here,
+            io,
+            codes,
+            table,
+            floats,
+        );
+    }
+    here = at_row(here, io, b"dlookup LIST: the table at each f64 from 0 to 1");
+    if here.asked {
+        return ask(
+            Question::LookupF64,
+            Place::Double,
+            here,
+            io,
+            codes,
+            table,
+            floats,
+        );
+    }
+    here
+}
+
+// The rest of a line that asks a list of questions.
+pub fn ask(
+    question: Question,
+    place: Place,
+    s: State,
+    io: &mut Streams,
+    codes: &mut Codes,
+    table: &[u16],
+    floats: &[f32],
+) -> State {
+    let asked = Asked {
+        question,
+        place,
+        inputs: 0,
+        depth: 0,
+    };
+    ask_each(
+        asked,
+        s,
+        io,
+        codes,
+        entries(table, s.table),
+        values(floats, s.floats),
+    )
+}
+
+fn ask_gamma(
+    s: State,
+    io: &mut Streams,
+    codes: &mut Codes,
+    table: &[u16],
+    floats: &[f32],
+) -> State {
+    let inputs = read_number(s, io, Place::Any);
+    let here = read_number(inputs, io, Place::Any);
+    let asked = Asked {
+        question: Question::Gamma,
+        place: Place::Any,
+        inputs: inputs.got as usize,
+        depth: here.got as usize,
+    };
+    ask_each(
+        asked,
+        here,
+        io,
+        codes,
+        entries(table, here.table),
+        values(floats, here.floats),
+    )
+}
+
+// The next word of the line as a list of questions, with their answers as a list.
+fn ask_each(
+    asked: Asked,
+    s: State,
+    io: &mut Streams,
+    codes: &mut Codes,
+    table: &[u16],
+    floats: &[f32],
+) -> State {
+    let place = asked.place;
+    let opened = open_list(s, io);
+    let mut here = opened.s;
+    let mut list = opened.list;
+    let mut answers: usize = 0;
+    let mut turns = u64::MAX;
+    while turns > 0 && goes_on_asking(list, here) {
+        let filled = fill(list, here, io, place, codes, 1024, true);
+        let after = filled.s;
+        here = answer_row(asked, after, io, codes, table, floats, answers);
+        list = filled.list;
+        answers = std::num::wrapping_add_usize(answers, after.got as usize);
+        turns -= 1;
+    }
+    put_end(here, io, answers)
+}
+
+// Whether there are more questions, and anyone to answer.
+fn goes_on_asking(list: List, s: State) -> bool {
+    if s.broken {
+        return false;
+    }
+    goes_on(list)
+}
+
+// What stands after so many answers: a comma before what is wrong with the list or after it, or `-` where there were no questions.
+fn put_end(s: State, io: &mut Streams, answers: usize) -> State {
+    let here = no_more_words(s, io);
+    if !is_fine(here) {
+        return put_comma(here, io, answers);
+    }
+    if answers == 0 {
+        return put_byte(here, io, b'-');
+    }
+    here
+}
+
+// The answers to the questions that were read, which are written out before more is waited for.
+fn answer_row(
+    asked: Asked,
+    s: State,
+    io: &mut Streams,
+    codes: &Codes,
+    table: &[u16],
+    floats: &[f32],
+    before: usize,
+) -> State {
+    let here = put_row(asked, s, io, codes, table, floats, before);
+    settled(here, io)
+}
+
+// Least inputs are found by one call, which tests the table once for all of them. Where it is refused, each is.
+fn put_row(
+    asked: Asked,
+    s: State,
+    io: &mut Streams,
+    codes: &Codes,
+    table: &[u16],
+    floats: &[f32],
+    before: usize,
+) -> State {
+    let question = asked.question;
+    if let Question::LeastInput = question {
+        let mut found = [0u32; 65537];
+        let done = least_of(table, codes, s.got as usize, &mut found);
+        if let Done::Yes = done {
+            return put_first_found(s, io, &found, before, true);
+        }
+    }
+    put_each(asked, s, io, codes, table, floats, before)
+}
+
+// The answers to the questions, each by itself, with so many before them.
+fn put_each(
+    asked: Asked,
+    s: State,
+    io: &mut Streams,
+    codes: &Codes,
+    table: &[u16],
+    floats: &[f32],
+    before: usize,
+) -> State {
+    let n = s.got as usize;
+    let mut here = s;
+    let mut i = 0;
+    while i < 65537 && i < n {
+        here = put_comma(here, io, std::num::wrapping_add_usize(before, i));
+        here = put_answer(asked, here, io, table, floats, codes[i]);
+        i += 1;
+    }
+    here
+}
+
+fn put_answer(
+    asked: Asked,
+    s: State,
+    io: &mut Streams,
+    table: &[u16],
+    floats: &[f32],
+    code: u64,
+) -> State {
+    let question = asked.question;
+    match question {
+        Question::Lookup => put_looked(s, io, looked_up(table, code)),
+        Question::LeastInput => put_sought(s, io, least_input(table, code)),
+        Question::Inverse => put_sought(s, io, inverse_of(table, code)),
+        Question::Gamma => put_coded(s, io, coded(table, asked, code)),
+        Question::HouseEntry => put_looked(s, io, house::entry(code as usize)),
+        Question::LookupF64 => put_interpolated(s, io, interpolated(table, code)),
+        Question::LookupF32 => put_interpolated(s, io, interpolated_float(floats, code)),
+        Question::Fixed8 => put_float(s, io, rounding::u8_fixed_8number_to_float(short(code))),
+        Question::Raw16 => put_float(s, io, rounding::s15_fixed16_number_to_float(raw(code))),
+        Question::Narrow => put_float(s, io, rounding::nearest_f64_to_f32(double(code))),
+    }
+}
+
+fn looked_up(table: &[u16], code: u64) -> Looked {
+    lookup::lut_interp_linear16(table, Drive(short(code)))
+}
+
+fn least_input(table: &[u16], code: u64) -> Sought {
+    least::least_input(table, Density(short(code)))
+}
+
+fn inverse_of(table: &[u16], code: u64) -> Sought {
+    inverse::lut_inverse_interp16(table, Density(short(code)))
+}
+
+fn coded(table: &[u16], asked: Asked, code: u64) -> Coded {
+    gamma::lut_interp_linear_gamma_impl(table, asked.inputs, asked.depth, code as usize)
+}
+
+fn interpolated(table: &[u16], code: u64) -> Interpolated {
+    interp::lut_interp_linear(table, double(code))
+}
+
+fn interpolated_float(floats: &[f32], code: u64) -> Interpolated {
+    interp::lut_interp_linear_float(floats, single(code))
+}
+
+fn put_looked(s: State, io: &mut Streams, answer: Looked) -> State {
+    match answer {
+        Looked::At(density) => put_short(s, io, density.0),
+        Looked::Refused(why) => put_refused_item(s, io, why),
+    }
+}
+
+fn put_sought(s: State, io: &mut Streams, answer: Sought) -> State {
+    match answer {
+        Sought::At(drive) => put_short(s, io, drive.0),
+        Sought::Refused(why) => put_refused_item(s, io, why),
+    }
+}
+
+fn put_coded(s: State, io: &mut Streams, answer: Coded) -> State {
+    match answer {
+        Coded::Value(code) => put_short(s, io, code),
+        Coded::Refused(why) => put_refused_item(s, io, why),
+    }
+}
+
+fn put_interpolated(s: State, io: &mut Streams, answer: Interpolated) -> State {
+    match answer {
+        Interpolated::Value(x) => put_float(s, io, x),
+        Interpolated::Refused(why) => put_refused_item(s, io, why),
+    }
+}
+
+// The least inputs of the first n values.
+fn least_of(table: &[u16], codes: &Codes, n: usize, found: &mut [u32]) -> Done {
+    let mut values = [0u16; 65537];
+    hold(codes, n, &mut values);
+    least_of_first(table, &values, n, found)
+}
+
+fn least_of_first(table: &[u16], values: &[u16], n: usize, found: &mut [u32]) -> Done {
+    if n <= found.len() {
+        return least_row::least_input_row(table, entries(values, n), &mut found[0..n]);
+    }
+    Done::Refused(Refusal::OutputLength)
+}
+
+// A least input of a row. 65,536 says that the value is above the last entry, for which an item of its own is refused.
+fn put_found(s: State, io: &mut Streams, position: u32, items: bool) -> State {
+    if items && position > 65535 {
+        return put_refused_item(s, io, Refusal::AboveLast);
+    }
+    put_decimal(s, io, position as u64)
+}
+
+// As many least inputs as were asked for, with so many before them.
+fn put_first_found(s: State, io: &mut Streams, found: &[u32], before: usize, items: bool) -> State {
+    let n = s.got as usize;
+    let mut here = s;
+    let mut i = 0;
+    while i < found.len() && i < n {
+        here = put_comma(here, io, std::num::wrapping_add_usize(before, i));
+        here = put_found(here, io, found[i], items);
+        i += 1;
+    }
+    here
+}
+
+fn put_all_found(s: State, io: &mut Streams, done: Done, found: &[u32]) -> State {
+    if let Done::Refused(why) = done {
+        return put_refused(s, io, why);
+    }
+    if s.got == 0 {
+        return put_byte(s, io, b'-');
+    }
+    put_first_found(s, io, found, 0, false)
+}
+
+fn least_row(s: State, io: &mut Streams, codes: &mut Codes, table: &[u16]) -> State {
+    let here = last_items(s, io, Place::Short, codes);
+    if !is_fine(here) {
+        return here;
+    }
+    let mut found = [0u32; 65537];
+    let done = least_of(table, codes, here.got as usize, &mut found);
+    put_all_found(here, io, done, &found)
+}
+
+fn put_filled(s: State, io: &mut Streams, done: Done, out: &[u16]) -> State {
+    match done {
+        Done::Yes => put_shorts(s, io, out),
+        Done::Refused(why) => put_refused(s, io, why),
+    }
+}
+
+fn row_of(table: &[u16], positions: &[u16], n: usize, out: &mut [u16]) -> Done {
+    rows::lut_interp_linear16_row(table, entries(positions, n), entries_mut(out, n))
+}
+
+fn look_up_row(s: State, io: &mut Streams, codes: &mut Codes, table: &[u16]) -> State {
+    let here = last_items(s, io, Place::Short, codes);
+    if !is_fine(here) {
+        return here;
+    }
+    let n = here.got as usize;
+    let mut positions = [0u16; 65537];
+    let mut out = [0u16; 65537];
+    hold(codes, n, &mut positions);
+    let done = row_of(table, &positions, n, &mut out);
+    put_filled(here, io, done, entries(&out, n))
+}
+
+fn inverted(table: &[u16], out: &mut [u16], m: usize) -> Done {
+    invert::invert_lut(table, entries_mut(out, m))
+}
+
+// Every length from 65,537 on is refused alike.
+fn invert(s: State, io: &mut Streams, table: &[u16]) -> State {
+    let here = last_number(s, io, Place::Any);
+    if !is_fine(here) {
+        return here;
+    }
+    let m = here.got as usize;
+    let mut out = [0u16; 65537];
+    let done = inverted(table, &mut out, m);
+    put_filled(here, io, done, entries(&out, m))
+}

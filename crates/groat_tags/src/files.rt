@@ -1,0 +1,199 @@
+// The tag from a file and to one. A file is written beside its place and renamed, so that no half file is left. A path of 4,096 bytes may go on
+// past its buffer, and is refused.
+use crate::tags::hold;
+use groat_answers::bytes;
+use groat_answers::bytes_mut;
+use groat_answers::put_ok;
+use groat_lines::CANNOT_OPEN;
+use groat_lines::CANNOT_WRITE;
+use groat_lines::State;
+use groat_lines::Streams;
+use groat_lines::TOO_MANY_BYTES;
+use groat_lines::Tag;
+use groat_lines::Word;
+use groat_lines::is_fine;
+use groat_lines::last_word;
+use groat_lines::wrong;
+
+enum Loaded {
+    Bytes(usize),
+    TooMany,
+    Failed,
+}
+
+// A file that is being written: its descriptor, below 0 where it could not be made, and the length of its name for the time being.
+pub struct Draft {
+    pub fd: i32,
+    name: usize,
+}
+
+// What a read of one byte more says of a file of which n bytes came.
+fn judged(n: usize, more: isize) -> Loaded {
+    if more == 0 {
+        return Loaded::Bytes(n);
+    }
+    if n == 131200 {
+        if more > 0 {
+            return Loaded::TooMany;
+        }
+    }
+    Loaded::Failed
+}
+
+fn read_all(fd: i32, all: &mut Tag) -> Loaded {
+    let mut more = [0u8; 1];
+    let n = io::read_full(fd, all);
+    judged(n, libc::read(fd, &mut more))
+}
+
+// The bytes of a file, put into a lent buffer.
+fn load_bytes(path: &[u8], all: &mut Tag) -> Loaded {
+    let fd = os::open_read(path);
+    if fd < 0 {
+        return Loaded::Failed;
+    }
+    let loaded = read_all(fd, all);
+    libc::close(fd);
+    loaded
+}
+
+fn load_named(s: State, io: &mut Streams, path: &[u8], tag: &mut [u8]) -> State {
+    let mut spare = [0u8; 131200];
+    match load_bytes(path, &mut spare) {
+        Loaded::Bytes(n) => hold(s, io, &spare, n, tag),
+        Loaded::TooMany => wrong(s, TOO_MANY_BYTES),
+        Loaded::Failed => wrong(s, CANNOT_OPEN),
+    }
+}
+
+// The first n bytes of a word.
+pub fn path_of(word: &Word, n: u64) -> &[u8] {
+    bytes(word, n as usize)
+}
+
+// `load PATH`.
+pub fn load(s: State, io: &mut Streams, tag: &mut [u8]) -> State {
+    let mut word = [0u8; 4096];
+    let here = last_word(s, io, &mut word);
+    if !is_fine(here) {
+        return here;
+    }
+    load_named(here, io, path_of(&word, here.got), tag)
+}
+
+fn end_after(byte: u8, next: usize, before: usize) -> usize {
+    if byte == b'/' {
+        return next;
+    }
+    before
+}
+
+// How many bytes of a path are its directory, with the last slash.
+fn directory(path: &[u8]) -> usize {
+    let mut end = 0;
+    let mut i = 0;
+    while i < path.len() {
+        let next = i + 1;
+        end = end_after(path[i], next, end);
+        i = next;
+    }
+    end
+}
+
+fn keep_byte(name: &mut Word, at: usize, byte: u8) {
+    if at < 4096 {
+        name[at] = byte;
+    }
+}
+
+// Puts bytes into a name from one place on.
+fn write_at(name: &mut Word, at: usize, text: &[u8]) {
+    let mut i = 0;
+    while i < text.len() {
+        keep_byte(name, std::num::wrapping_add_usize(at, i), text[i]);
+        i += 1;
+    }
+}
+
+fn make(name: &mut [u8], n: usize) -> i32 {
+    os::create_temp(bytes_mut(name, n))
+}
+
+// Makes a file in the directory of a path, under a name of its own that is put into a lent buffer.
+pub fn begin(path: &[u8], name: &mut Word) -> Draft {
+    if path.len() >= 4096 {
+        return Draft { fd: -1, name: 0 };
+    }
+    let before = directory(path);
+    write_at(name, 0, path);
+    write_at(name, before, b"groat-XXXXXX");
+    let length = std::num::wrapping_add_usize(before, 12);
+    Draft {
+        fd: make(name, length),
+        name: length,
+    }
+}
+
+// Whether the file is safe on its disk, for everyone to read.
+fn settled(fd: i32) -> bool {
+    if libc::fchmod(fd, 0o644) < 0 {
+        return false;
+    }
+    libc::fsync(fd) == 0
+}
+
+// Puts a file that is whole in its place, and removes one that is not; whether it is in its place.
+fn placed(whole: bool, name: &[u8], path: &[u8]) -> bool {
+    if whole {
+        if os::rename(name, path) == 0 {
+            return true;
+        }
+    }
+    os::unlink(name);
+    false
+}
+
+// Ends a draft of which everything was written or not; whether the file is in its place.
+fn finish(draft: Draft, written: bool, path: &[u8], name: &Word) -> bool {
+    let whole = written && settled(draft.fd);
+    let closed = libc::close(draft.fd);
+    placed(whole && closed == 0, bytes(name, draft.name), path)
+}
+
+// The answer to a request that drafted a file of n bytes.
+pub fn finished(
+    s: State,
+    io: &mut Streams,
+    draft: Draft,
+    written: bool,
+    n: usize,
+    path: &[u8],
+    name: &Word,
+) -> State {
+    if finish(draft, written, path, name) {
+        return put_ok(s, io, n);
+    }
+    wrong(s, CANNOT_WRITE)
+}
+
+// Writes the tag to a draft that could be made, and puts it in its place.
+fn save_named(s: State, io: &mut Streams, path: &[u8], tag: &[u8]) -> State {
+    let mut name = [0u8; 4096];
+    let draft = begin(path, &mut name);
+    let fd = draft.fd;
+    if fd < 0 {
+        return wrong(s, CANNOT_OPEN);
+    }
+    let written = io::write_all(fd, tag);
+    finished(s, io, draft, written, tag.len(), path, &name)
+}
+
+// `save PATH`.
+pub fn save(s: State, io: &mut Streams, tag: &[u8]) -> State {
+    let mut word = [0u8; 4096];
+    let here = last_word(s, io, &mut word);
+    if !is_fine(here) {
+        return here;
+    }
+    save_named(here, io, path_of(&word, here.got), tag)
+}
