@@ -1,6 +1,7 @@
 // The requests that ask of the table and of the kept floats: a list of questions, each handed to the library's call, with the answers written as the questions come in.
 use crate::tables::hold;
 use gamma::Coded;
+use gamma::lut_interp_linear_gamma_impl;
 use groat_answers::at_row;
 use groat_answers::entries;
 use groat_answers::entries_mut;
@@ -32,6 +33,14 @@ use groat_lines::settled;
 use groat_lines::short;
 use groat_lines::single;
 use interp::Interpolated;
+use interp::lut_interp_linear;
+use interp::lut_interp_linear_float;
+use inverse::lut_inverse_interp16;
+use least::least_input;
+use lookup::lut_interp_linear16;
+use rounding::nearest_f64_to_f32;
+use rounding::s15_fixed16_number_to_float;
+use rounding::u8_fixed_8number_to_float;
 use table::Density;
 use table::Done;
 use table::Drive;
@@ -53,12 +62,13 @@ pub enum Question {
     Narrow,
 }
 
-// A question with how its items are written and what stands before them: `gamma`'s N and DEPTH.
+// A question, how its items are written, `gamma`'s N and DEPTH, and how many items have been answered.
 struct Asked {
     question: Question,
     place: Place,
     inputs: usize,
     depth: usize,
+    answers: usize,
 }
 
 pub fn answer(
@@ -186,6 +196,7 @@ pub fn ask(
         place,
         inputs: 0,
         depth: 0,
+        answers: 0,
     };
     ask_each(
         asked,
@@ -211,6 +222,7 @@ fn ask_gamma(
         place: Place::Any,
         inputs: inputs.got as usize,
         depth: here.got as usize,
+        answers: 0,
     };
     ask_each(
         asked,
@@ -222,30 +234,30 @@ fn ask_gamma(
     )
 }
 
-// The next word of the line as a list of questions, with their answers as a list.
+// The next word of the line as a list of questions, with their answers as a list. What is answered is written out before more is waited for.
 fn ask_each(
-    asked: Asked,
+    first: Asked,
     s: State,
     io: &mut Streams,
     codes: &mut Codes,
     table: &[u16],
     floats: &[f32],
 ) -> State {
-    let place = asked.place;
+    let place = first.place;
     let opened = open_list(s, io);
     let mut here = opened.s;
     let mut list = opened.list;
-    let mut answers: usize = 0;
+    let mut asked = first;
     let mut turns = u64::MAX;
     while turns > 0 && goes_on_asking(list, here) {
         let filled = fill(list, here, io, place, codes, 1024, true);
         let after = filled.s;
-        here = answer_row(asked, after, io, codes, table, floats, answers);
+        here = settled(put_row(asked, after, io, codes, table, floats), io);
         list = filled.list;
-        answers = std::num::wrapping_add_usize(answers, after.got as usize);
+        asked.answers = std::num::wrapping_add_usize(asked.answers, after.got as usize);
         turns -= 1;
     }
-    put_end(here, io, answers)
+    put_end(here, io, asked.answers)
 }
 
 // Whether there are more questions, and anyone to answer.
@@ -268,20 +280,6 @@ fn put_end(s: State, io: &mut Streams, answers: usize) -> State {
     here
 }
 
-// The answers to the questions that were read, which are written out before more is waited for.
-fn answer_row(
-    asked: Asked,
-    s: State,
-    io: &mut Streams,
-    codes: &Codes,
-    table: &[u16],
-    floats: &[f32],
-    before: usize,
-) -> State {
-    let here = put_row(asked, s, io, codes, table, floats, before);
-    settled(here, io)
-}
-
 // Least inputs are found by one call, which tests the table once for all of them. Where it is refused, each is.
 fn put_row(
     asked: Asked,
@@ -290,20 +288,19 @@ fn put_row(
     codes: &Codes,
     table: &[u16],
     floats: &[f32],
-    before: usize,
 ) -> State {
     let question = asked.question;
     if let Question::LeastInput = question {
         let mut found = [0u32; 65537];
         let done = least_of(table, codes, s.got as usize, &mut found);
         if let Done::Yes = done {
-            return put_first_found(s, io, &found, before, true);
+            return put_first_found(s, io, &found, asked.answers, true);
         }
     }
-    put_each(asked, s, io, codes, table, floats, before)
+    put_each(asked, s, io, codes, table, floats)
 }
 
-// The answers to the questions, each by itself, with so many before them.
+// The answers to the questions, each by itself.
 fn put_each(
     asked: Asked,
     s: State,
@@ -311,13 +308,12 @@ fn put_each(
     codes: &Codes,
     table: &[u16],
     floats: &[f32],
-    before: usize,
 ) -> State {
     let n = s.got as usize;
     let mut here = s;
     let mut i = 0;
     while i < 65537 && i < n {
-        here = put_comma(here, io, std::num::wrapping_add_usize(before, i));
+        here = put_comma(here, io, std::num::wrapping_add_usize(asked.answers, i));
         here = put_answer(asked, here, io, table, floats, codes[i]);
         i += 1;
     }
@@ -334,41 +330,25 @@ fn put_answer(
 ) -> State {
     let question = asked.question;
     match question {
-        Question::Lookup => put_looked(s, io, looked_up(table, code)),
-        Question::LeastInput => put_sought(s, io, least_input(table, code)),
-        Question::Inverse => put_sought(s, io, inverse_of(table, code)),
-        Question::Gamma => put_coded(s, io, coded(table, asked, code)),
+        Question::Lookup => put_looked(s, io, lut_interp_linear16(table, Drive(short(code)))),
+        Question::LeastInput => put_sought(s, io, least_input(table, Density(short(code)))),
+        Question::Inverse => put_sought(s, io, lut_inverse_interp16(table, Density(short(code)))),
+        Question::Gamma => put_coded(
+            s,
+            io,
+            lut_interp_linear_gamma_impl(table, asked.inputs, asked.depth, code as usize),
+        ),
         Question::HouseEntry => put_looked(s, io, house::entry(code as usize)),
-        Question::LookupF64 => put_interpolated(s, io, interpolated(table, code)),
-        Question::LookupF32 => put_interpolated(s, io, interpolated_float(floats, code)),
-        Question::Fixed8 => put_float(s, io, rounding::u8_fixed_8number_to_float(short(code))),
-        Question::Raw16 => put_float(s, io, rounding::s15_fixed16_number_to_float(raw(code))),
-        Question::Narrow => put_float(s, io, rounding::nearest_f64_to_f32(double(code))),
+        Question::LookupF64 => put_interpolated(s, io, lut_interp_linear(table, double(code))),
+        Question::LookupF32 => put_interpolated(
+            s,
+            io,
+            lut_interp_linear_float(floats, single(code)),
+        ),
+        Question::Fixed8 => put_float(s, io, u8_fixed_8number_to_float(short(code))),
+        Question::Raw16 => put_float(s, io, s15_fixed16_number_to_float(raw(code))),
+        Question::Narrow => put_float(s, io, nearest_f64_to_f32(double(code))),
     }
-}
-
-fn looked_up(table: &[u16], code: u64) -> Looked {
-    lookup::lut_interp_linear16(table, Drive(short(code)))
-}
-
-fn least_input(table: &[u16], code: u64) -> Sought {
-    least::least_input(table, Density(short(code)))
-}
-
-fn inverse_of(table: &[u16], code: u64) -> Sought {
-    inverse::lut_inverse_interp16(table, Density(short(code)))
-}
-
-fn coded(table: &[u16], asked: Asked, code: u64) -> Coded {
-    gamma::lut_interp_linear_gamma_impl(table, asked.inputs, asked.depth, code as usize)
-}
-
-fn interpolated(table: &[u16], code: u64) -> Interpolated {
-    interp::lut_interp_linear(table, double(code))
-}
-
-fn interpolated_float(floats: &[f32], code: u64) -> Interpolated {
-    interp::lut_interp_linear_float(floats, single(code))
 }
 
 fn put_looked(s: State, io: &mut Streams, answer: Looked) -> State {
