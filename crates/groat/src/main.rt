@@ -1,5 +1,5 @@
-// The bench program: the whole library at a prompt. It reads standard input to its end, one request a line, and answers each with a line.
-// docs/GROAT.md is its language.
+// The bench program: the whole library at a prompt. It reads standard input to its end, one request a line, and
+// answers each with a line. docs/GROAT.md is its language.
 use groat_answers::asks_help;
 use groat_answers::before_rows;
 use groat_lines::Codes;
@@ -83,7 +83,8 @@ fn line(
     turn(put_end(answered, io), io)
 }
 
-// A proved loop has to end, and nothing says that the input does. So it counts its turns down from a number that no run uses up.
+// A proved loop has to end, and nothing says that the input does. So it counts its turns down from a number that no
+// run uses up.
 fn main() {
     let mut io = [0u8; 131072];
     let mut codes = [0u64; 65537];

@@ -1,5 +1,5 @@
-// What the requests share: their rows (help.rt), what is kept (kept.rt), and, here, how answers are written: `ok`, `refused N`, and lists of numbers,
-// floats and bytes.
+// What the requests share: their rows (help.rt), what is kept (kept.rt), and, here, how answers are written: `ok`,
+// `refused N`, and lists of numbers, floats and bytes.
 mod help;
 mod kept;
 

@@ -1,5 +1,5 @@
-// The requests on curves and floats. Each has a row: the line that `help` shows of it, which begins with its name and its words, and below that what answers it.
-// A new request is a row more, and a function of its own.
+// The requests on curves and floats. Each has a row: the line that `help` shows of it, which begins with its name and
+// its words, and below that what answers it. A new request is a row more, and a function of its own.
 mod floats;
 mod questions;
 mod tables;

@@ -1,4 +1,5 @@
-// The requests that ask of the table and of the kept floats: a list of questions, each handed to the library's call, with the answers written as the questions come in.
+// The requests that ask of the table and of the kept floats: a list of questions, each handed to the library's call,
+// with the answers written as the questions come in.
 use crate::tables::hold;
 use gamma::Coded;
 use gamma::lut_interp_linear_gamma_impl;
@@ -234,7 +235,8 @@ fn ask_gamma(
     )
 }
 
-// The next word of the line as a list of questions, with their answers as a list. What is answered is written out before more is waited for.
+// The next word of the line as a list of questions, with their answers as a list. What is answered is written out
+// before more is waited for.
 fn ask_each(
     first: Asked,
     s: State,
@@ -268,7 +270,8 @@ fn goes_on_asking(list: List, s: State) -> bool {
     goes_on(list)
 }
 
-// What stands after so many answers: a comma before what is wrong with the list or after it, or `-` where there were no questions.
+// What stands after so many answers: a comma before what is wrong with the list or after it, or `-` where there were
+// no questions.
 fn put_end(s: State, io: &mut Streams, answers: usize) -> State {
     let here = no_more_words(s, io);
     if !is_fine(here) {

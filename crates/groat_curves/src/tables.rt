@@ -1,4 +1,5 @@
-// The requests that make, change and judge the table. A refused call leaves its buffer as it was, so the kept table itself is lent to it.
+// The requests that make, change and judge the table. A refused call leaves its buffer as it was, so the kept table
+// itself is lent to it.
 use degeneration::Degenerated;
 use groat_answers::at_row;
 use groat_answers::entries;

@@ -15,7 +15,8 @@ use crate::words::no_more_words;
 // As many bytes as a tag may have that is kept: some more than the longest that is read or written.
 pub type Tag = [u8; 131200];
 
-// The byte that holds digit n of a row of bytes, with that digit put in, where there is room for it. The first of a byte's two digits is the upper.
+// The byte that holds digit n of a row of bytes, with that digit put in, where there is room for it. The first of a
+// byte's two digits is the upper.
 fn keep_digit(bytes: &mut Tag, n: u64, digit: u64) {
     let at = n / 2;
     if at < 131200 {

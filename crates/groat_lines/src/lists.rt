@@ -249,7 +249,8 @@ fn waits(list: List, s: State, n: u64) -> bool {
     }
 }
 
-// Reads on until there are `room` values, or the list ends or fails; a `prompt` reader, which answers what there is, does not wait for more input either.
+// Reads on until there are `room` values, or the list ends or fails; a `prompt` reader, which answers what there is,
+// does not wait for more input either.
 pub fn fill(
     from: List,
     s: State,

@@ -1,6 +1,7 @@
-// Where the bench program stands, its standard input and its standard output. Input comes in byte by byte out of one half of a buffer, which is filled
-// again whenever it is used up. Output is gathered in the other half, and written out when that is full and wherever `settled` is called: before the
-// program may have to wait for input, so that nobody waits for an answer. Of each half 65,535 bytes are used, so that how many are is any 16-bit number.
+// Where the bench program stands, its standard input and its standard output. Input comes in byte by byte out of one
+// half of a buffer, which is filled again whenever it is used up. Output is gathered in the other half, and written
+// out when that is full and wherever `settled` is called: before the program may have to wait for input, so that
+// nobody waits for an answer. Of each half 65,535 bytes are used, so that how many are is any 16-bit number.
 ghost use mathlib.Core.Path.{_≡_};
 ghost use Prim.Native.Nat.{_≤_, _<_};
 
@@ -20,7 +21,8 @@ const CARRIAGE_RETURN: u16 = b'\r' as u16;
 pub struct State {
     // the byte of the line that is looked at, or one of the two ends
     pub now: u16,
-    // the name that was read last, as a number (words.rt), and whether the row of requests that was looked at last has it
+    // the name that was read last, as a number (words.rt), and whether the row of requests that was looked at last has
+    // it
     pub name: u64,
     pub asked: bool,
     // what was read last: a number, or how many items or bytes
@@ -191,7 +193,8 @@ fn holds_line(s: State, io: &Streams) -> bool {
     has_line_end(&text[from..to])
 }
 
-// With nothing waiting to be written, unless a whole line is at hand: many short lines are answered by few writes, and none waits for input.
+// With nothing waiting to be written, unless a whole line is at hand: many short lines are answered by few writes, and
+// none waits for input.
 pub fn settled(s: State, io: &Streams) -> State {
     if holds_line(s, io) {
         return s;

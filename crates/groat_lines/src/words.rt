@@ -92,8 +92,8 @@ fn letter(byte: u8) -> u64
     }
 }
 
-// A name as a number, with a letter more: its letters are the number's digits to the base 37, so that no two names have one number. A name has at
-// most twelve letters, small ones and digits.
+// A name as a number, with a letter more: its letters are the number's digits to the base 37, so that no two names
+// have one number. A name has at most twelve letters, small ones and digits.
 fn longer(name: u64, byte: u8) -> u64 {
     let l = letter(byte);
     if l == 0 {

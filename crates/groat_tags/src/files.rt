@@ -1,5 +1,5 @@
-// The tag from a file and to one. A file is written beside its place and renamed, so that no half file is left. A path of 4,096 bytes may go on
-// past its buffer, and is refused.
+// The tag from a file and to one. A file is written beside its place and renamed, so that no half file is left. A path
+// of 4,096 bytes may go on past its buffer, and is refused.
 use crate::tags::hold;
 use groat_answers::bytes;
 use groat_answers::bytes_mut;
@@ -21,7 +21,8 @@ enum Loaded {
     Failed,
 }
 
-// A file that is being written: its descriptor, below 0 where it could not be made, and the length of its name for the time being.
+// A file that is being written: its descriptor, below 0 where it could not be made, and the length of its name for the
+// time being.
 pub struct Draft {
     pub fd: i32,
     name: usize,

@@ -1,4 +1,5 @@
-// The requests on the tag. A refused call leaves its buffer as it was, so the kept table and the kept tag are lent to it.
+// The requests on the tag. A refused call leaves its buffer as it was, so the kept table and the kept tag are lent to
+// it.
 use crate::files::load;
 use crate::files::save;
 use curv::Counted;
@@ -150,7 +151,8 @@ fn read(s: State, io: &mut Streams, tag: &[u8], table: &mut [u16]) -> State {
     table_after(put_done_of(s, io, done, n), done, n)
 }
 
-// How many bytes the curv tag of a table of n entries has; of one that is too long any number serves, since it is refused for that.
+// How many bytes the curv tag of a table of n entries has; of one that is too long any number serves, since it is
+// refused for that.
 fn curv_length(n: usize) -> usize {
     if n < 65537 {
         return 12 + 2 * n;
@@ -214,7 +216,8 @@ fn read_curve(s: State, io: &mut Streams, tag: &[u8]) -> State {
     put_unified(s, io, para_curve::read_parametric_curve(tag))
 }
 
-// How many bytes the para tag of a function type has; of a type above 4 any number serves, since it is refused for that.
+// How many bytes the para tag of a function type has; of a type above 4 any number serves, since it is refused for
+// that.
 fn para_length(t: usize) -> usize {
     match t {
         0 => 16,
