@@ -8,11 +8,11 @@ use native.Mathlib.Omega.{arith}
 use borrow.Author.Tests.{lt-ltb, le-ltb, leb-true, leb-false}
 use lib.Dec.{leb}
 use Rattle.table.proofs.Choice.{never, below?}
-use Rattle.placing.specs.declared.inside.Reach.{Reach}
-use Rattle.placing.specs.Place.{rowOf}
-use Rattle.placing.specs.Reach.{Within, Reaches}
+use Rattle.picture.specs.declared.reach.Reach.{Reach}
+use Rattle.picture.specs.Place.{rowOf}
+use Rattle.picture.specs.Reach.{Within, Reaches}
 use Rattle.picture.specs.Plot.{starRow, firstOf, lastOf, Passed, Tells, starLeft, starRight, Marked}
-use Rattle.placing.proofs.Placing.{row-falls}
+use Rattle.picture.proofs.Placing.{row-falls}
 
 -- the last drive that a column is drawn from
 pub last-of-inner : (c : ℕ) → c < 63 → lastOf c ≡ c * 1024 + 1024

@@ -5,8 +5,8 @@ use mathlib.Core.Bool.{Bool, true, false}
 use mathlib.Core.List.{List}
 use lib.Dec.{ltb, eqb}
 use Rattle.table.specs.Choice.{pick}
-use Rattle.placing.specs.Place.{densityAt, rowOf, driveOf}
-use Rattle.placing.specs.Reach.{Within}
+use Rattle.picture.specs.Place.{densityAt, rowOf, driveOf}
+use Rattle.picture.specs.Reach.{Within}
 
 -- the row of the density at the column's own drive
 abbrev pub starRow : List ℕ → ℕ → ℕ

@@ -5,7 +5,9 @@ ghost use mathlib.Core.Path.{_≡_};
 ghost use Rattle.picture.specs.Promises.{LinePromise, pieceCount, PiecePromise};
 
 mod digits;
+mod place;
 mod plot;
+mod reach;
 mod svg;
 
 // How many lines a plot has: its rows, the axis, and the scale below it.

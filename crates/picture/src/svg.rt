@@ -5,11 +5,11 @@
 // is lost. A table of at most 64 entries has a ring at each entry too.
 use crate::digits;
 use curve::inside::ramp;
-use placing::inside::Reach;
-use placing::inside::reach_over;
-use placing::place::across;
-use placing::place::density_at;
-use placing::place::down;
+use crate::reach::Reach;
+use crate::reach::reach_over;
+use crate::place::across;
+use crate::place::density_at;
+use crate::place::down;
 use table::Density;
 use table::Drive;
 use table::inside::wide;

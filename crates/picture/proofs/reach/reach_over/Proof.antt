@@ -2,11 +2,11 @@
 use Prim.Native.Nat.{_≤_, _-_}
 use mathlib.Core.Path.{_≡_, refl}
 use borrow.Author.Needs.{needs}
-use Rattle.placing.specs.Reach.{Reaches}
-use Rattle.placing.proofs.Widening.{single, widen}
+use Rattle.picture.specs.Reach.{Reaches}
+use Rattle.picture.proofs.Widening.{single, widen}
 use native.Mathlib.Omega.{arith}
-use Rattle.placing.proofs.inside.reach_over.Statement.{statement}
-use Rattle.placing.proofs.inside.reach_over.Tie as tie
+use Rattle.picture.proofs.reach.reach_over.Statement.{statement}
+use Rattle.picture.proofs.reach.reach_over.Tie as tie
 
 abbrev Inv-loop : tie.InvT-loop
 Inv-loop table first last r₀ p₀ r p = (first ≤ p) × (p ≤ last) × Reaches table first p r

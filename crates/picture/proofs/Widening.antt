@@ -11,9 +11,9 @@ use Rattle.table.specs.Choice.{pick}
 use Rattle.table.specs.declared.Drive.{Drive}
 use Rattle.table.specs.declared.Density.{Density}
 use Rattle.table.proofs.Choice.{below?}
-use Rattle.placing.specs.declared.inside.Reach.{Reach}
-use Rattle.placing.specs.Place.{densityAt}
-use Rattle.placing.specs.Reach.{widenedBy, Within, Reaches}
+use Rattle.picture.specs.declared.reach.Reach.{Reach}
+use Rattle.picture.specs.Place.{densityAt}
+use Rattle.picture.specs.Reach.{widenedBy, Within, Reaches}
 
 pub single : (t : List ℕ) (first : ℕ) (p : Drive) (d : Density) → p .0 ≡ first → d .0 ≡ densityAt t first → Reaches t first first (record { valley = p; low = d; peak = p; high = d })
 single t first p d ep ed =

@@ -1,20 +1,10 @@
-// What asks something of its caller: the drive of a column, and how low and how high a curve goes over a span of drives, where every drive is looked up, so that no
-// spike of the curve goes unseen.
+// How low and how high a curve goes over a span of drives. Every drive is looked up, so that no spike of the curve goes unseen.
 use crate::place::density_at;
 use table::Density;
 use table::Drive;
 ghost use mathlib.Core.Path.{_≡_};
-ghost use Prim.Native.Nat.{_≤_, _<_};
-ghost use Rattle.placing.specs.Place.{driveOf};
-ghost use Rattle.placing.specs.Reach.{widenedBy, Reaches};
-
-// The drive at which a column shows the curve.
-pub fn drive_of(column: usize) -> Drive
-    requires { ⌜ column < 64 ⌝ }
-    ensures { λ r. ⌜ r .0 ≡ driveOf column ⌝ }
-{
-    Drive((column * 65535 / 63) as u16)
-}
+ghost use Prim.Native.Nat.{_≤_};
+ghost use Rattle.picture.specs.Reach.{widenedBy, Reaches};
 
 // The lowest and the highest density of a span, each with the first drive that has it.
 pub struct Reach {

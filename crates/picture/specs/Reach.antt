@@ -6,8 +6,8 @@ use lib.Dec.{ltb}
 use Rattle.table.specs.Choice.{pick}
 use Rattle.table.specs.declared.Drive.{Drive}
 use Rattle.table.specs.declared.Density.{Density}
-use Rattle.placing.specs.declared.inside.Reach.{Reach}
-use Rattle.placing.specs.Place.{densityAt}
+use Rattle.picture.specs.declared.reach.Reach.{Reach}
+use Rattle.picture.specs.Place.{densityAt}
 
 -- a span's reach with one drive more, and the density there
 unfoldable pub widenedBy : Reach → Drive → Density → Reach

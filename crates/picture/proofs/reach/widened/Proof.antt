@@ -1,8 +1,8 @@
 -- `widened` meets its contract, case by case. Assumes nothing.
 use borrow.Author.Tests.{lt-ltb, le-ltb}
-use Rattle.placing.specs.Reach.{widenedBy}
-use Rattle.placing.proofs.inside.widened.Statement.{statement}
-use Rattle.placing.proofs.inside.widened.Tie as tie
+use Rattle.picture.specs.Reach.{widenedBy}
+use Rattle.picture.proofs.reach.widened.Statement.{statement}
+use Rattle.picture.proofs.reach.widened.Tie as tie
 
 returns : tie.Need-returns
 unfolding widenedBy
