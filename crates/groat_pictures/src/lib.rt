@@ -12,11 +12,8 @@ use groat_words::last_word;
 use groat_words::wrong;
 use table::Refusal;
 
-fn line_of(out: &[u8; 128], n: usize) -> &[u8] {
-    bytes(out, n)
-}
-
-fn piece_of(out: &[u8; 512], n: usize) -> &[u8] {
+// What a line or a piece of a picture has in its room.
+fn part_of(out: &[u8; 512], n: usize) -> &[u8] {
     bytes(out, n)
 }
 
@@ -29,10 +26,10 @@ fn put_break(s: State, output: &mut [u8; 65535], line: usize) -> State {
 }
 
 fn put_line(s: State, output: &mut [u8; 65535], table: &[u16], line: usize) -> State {
-    let mut out = [0u8; 128];
+    let mut out = [0u8; 512];
     let n = picture::plot_line(table, line, &mut out);
     let here = put_break(s, output, line);
-    put(here, output, line_of(&out, n))
+    put(here, output, part_of(&out, n))
 }
 
 fn put_lines(s: State, output: &mut [u8; 65535], table: &[u16], lines: usize) -> State {
@@ -63,7 +60,7 @@ fn draw_piece(fd: i32, table: &[u16], k: usize, before: usize) -> Drawn {
     let mut out = [0u8; 512];
     let n = picture::svg_piece(table, k, &mut out);
     Drawn {
-        fine: io::write_all(fd, piece_of(&out, n)),
+        fine: io::write_all(fd, part_of(&out, n)),
         bytes: std::num::wrapping_add_usize(before, n),
     }
 }

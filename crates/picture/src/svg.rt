@@ -3,13 +3,16 @@
 // The curve is one line through the lookup's answers at every 51st drive, both ends included: 1,286 points, about two to a pixel at the size that the file
 // asks for. Where the curve leaves the densities at a span's two ends, the points of its lowest and of its highest density stand between them, so that no spike
 // is lost. A table of at most 64 entries has a ring at each entry too.
-use crate::digits;
-use curve::inside::ramp;
-use crate::reach::Reach;
-use crate::reach::reach_over;
 use crate::place::across;
-use crate::place::density_at;
 use crate::place::down;
+use crate::reach::Point;
+use crate::reach::Reach;
+use crate::reach::point_at;
+use crate::reach::reach_over;
+use crate::text::put;
+use crate::text::put_number;
+use crate::text::put_with;
+use curve::inside::ramp;
 use table::Density;
 use table::Drive;
 use table::inside::wide;
@@ -48,40 +51,6 @@ pub fn pieces(entries: usize) -> usize
     ensures { λ r. ⌜ r ≡ piecesOf entries ⌝ }
 {
     FIRST_RING + rings(entries) + 1
-}
-
-fn put(out: &mut [u8; 512], at: usize, text: &[u8]) -> usize
-    requires { ⌜ at + length (now text) ≤ 512 ⌝ }
-    ensures { λ r. ⌜ r ≡ at + length (now (text .entry)) ⌝ }
-{
-    let mut i = 0;
-    while i < text.len() {
-        out[at + i] = text[i];
-        i += 1;
-    }
-    at + text.len()
-}
-
-fn put_number(out: &mut [u8; 512], at: usize, n: usize) -> usize
-    requires { ⌜ (at + 5 ≤ 512) × (n < 100000) ⌝ }
-    ensures { λ r. ⌜ (at < r) × (r ≤ at + 5) ⌝ }
-{
-    let count = digits::count(n);
-    let mut i = 0;
-    while i < count {
-        out[at + i] = digits::digit(n, count - 1 - i);
-        i += 1;
-    }
-    at + count
-}
-
-// A text, and a number after it.
-fn put_with(out: &mut [u8; 512], at: usize, text: &[u8], n: usize) -> usize
-    requires { ⌜ (at + length (now text) + 5 ≤ 512) × (n < 100000) ⌝ }
-    ensures { λ r. ⌜ (at < r) × (r ≤ at + length (now (text .entry)) + 5) ⌝ }
-{
-    let a = put(out, at, text);
-    put_number(out, a, n)
 }
 
 fn open(out: &mut [u8; 512]) -> usize
@@ -206,13 +175,13 @@ fn head(entries: usize, k: usize, out: &mut [u8; 512]) -> usize
 }
 
 // A point of the curve's line, after a blank or a new line.
-fn put_point(out: &mut [u8; 512], at: usize, before: u8, p: Drive, d: Density) -> usize
+fn put_point(out: &mut [u8; 512], at: usize, before: u8, x: Point) -> usize
     requires { ⌜ at ≤ 500 ⌝ }
     ensures { λ r. ⌜ (at < r) × (r ≤ at + 12) ⌝ }
 {
     out[at] = before;
-    let a = put_number(out, at + 1, across(p));
-    put_with(out, a, b",", down(d))
+    let a = put_number(out, at + 1, across(x.drive));
+    put_with(out, a, b",", down(x.density))
 }
 
 // Ten spans stand on a line of the file.
@@ -235,21 +204,30 @@ fn outside(d: Density, a: Density, b: Density) -> bool {
 }
 
 // A point within a span, where it is outside the densities of the span's ends.
-fn put_outside(
-    out: &mut [u8; 512],
-    at: usize,
-    p: Drive,
-    d: Density,
-    first: Density,
-    last: Density,
-) -> usize
+fn put_outside(out: &mut [u8; 512], at: usize, x: Point, first: Density, last: Density) -> usize
     requires { ⌜ at ≤ 500 ⌝ }
     ensures { λ r. ⌜ (at ≤ r) × (r ≤ at + 12) ⌝ }
 {
-    if !outside(d, first, last) {
+    if !outside(x.density, first, last) {
         return at;
     }
-    put_point(out, at, b' ', p, d)
+    put_point(out, at, b' ', x)
+}
+
+// Two points within a span.
+fn put_two(
+    out: &mut [u8; 512],
+    at: usize,
+    x: Point,
+    y: Point,
+    first: Density,
+    last: Density,
+) -> usize
+    requires { ⌜ (1 ≤ at) × (at ≤ 12) ⌝ }
+    ensures { λ r. ⌜ Filled r ⌝ }
+{
+    let a = put_outside(out, at, x, first, last);
+    put_outside(out, a, y, first, last)
 }
 
 // The lowest and the highest point of a span, the earlier one first.
@@ -258,15 +236,11 @@ fn put_between(out: &mut [u8; 512], at: usize, r: Reach, first: Density, last: D
     ensures { λ r. ⌜ Filled r ⌝ }
 {
     let valley = r.valley;
-    let low = r.low;
     let peak = r.peak;
-    let high = r.high;
-    if valley.0 < peak.0 {
-        let a = put_outside(out, at, valley, low, first, last);
-        return put_outside(out, a, peak, high, first, last);
+    if valley.drive.0 < peak.drive.0 {
+        return put_two(out, at, valley, peak, first, last);
     }
-    let a = put_outside(out, at, peak, high, first, last);
-    put_outside(out, a, valley, low, first, last)
+    put_two(out, at, peak, valley, first, last)
 }
 
 // A span's first point, and those between its ends.
@@ -276,18 +250,22 @@ fn span(table: &[u16], k: usize, out: &mut [u8; 512]) -> usize
 {
     let from = k * SPAN;
     let to = from + SPAN;
-    let p = Drive(from as u16);
-    let first = density_at(table, p);
-    let last = density_at(table, Drive(to as u16));
-    let at = put_point(out, 0, before_span(k), p, first);
-    put_between(out, at, reach_over(table, from, to), first, last)
+    let first = point_at(table, from);
+    let last = point_at(table, to);
+    let at = put_point(out, 0, before_span(k), first);
+    put_between(
+        out,
+        at,
+        reach_over(table, from, to),
+        first.density,
+        last.density,
+    )
 }
 
 fn last_point(table: &[u16], out: &mut [u8; 512]) -> usize
     ensures { λ r. ⌜ Filled r ⌝ }
 {
-    let p = Drive(65535);
-    let at = put_point(out, 0, b' ', p, density_at(table, p));
+    let at = put_point(out, 0, b' ', point_at(table, 65535));
     put(out, at, b"\"/>\n")
 }
 

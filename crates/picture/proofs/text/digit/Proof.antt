@@ -1,7 +1,7 @@
 -- `digit` meets its contract: what `power` gives is the power, and a digit is below 10. Assumes nothing.
 use borrow.Author.Needs.{needs}
-use Rattle.picture.proofs.digits.digit.Statement.{statement}
-use Rattle.picture.proofs.digits.digit.Tie as tie
+use Rattle.picture.proofs.text.digit.Statement.{statement}
+use Rattle.picture.proofs.text.digit.Tie as tie
 
 power-requires : tie.Need-power-requires
 power-requires c κs = search needs

@@ -1,8 +1,8 @@
 -- `power` meets its contract: the five powers, case by case. Assumes nothing.
 use native.Mathlib.Omega.{arith}
 use mathlib.Core.Path.{_≡_, refl}
-use Rattle.picture.proofs.digits.power.Statement.{statement}
-use Rattle.picture.proofs.digits.power.Tie as tie
+use Rattle.picture.proofs.text.power.Statement.{statement}
+use Rattle.picture.proofs.text.power.Tie as tie
 
 returns : tie.Need-returns
 returns c = let e : c .before .args .k ≡ 0 = omega arith in (rw e refl, omega arith)
