@@ -1,4 +1,5 @@
--- `Placing`: what follows from where a drive and a density are drawn. `Widening`: a span's reach with one drive more. `Marking`: the plot's marks.
+-- `Placing`: what follows from where a drive and a density are drawn. `Widening`: a span's reach with one drive more.
+-- `Marking`: the plot's marks.
 pub mod Placing
 pub mod Widening
 pub mod Marking

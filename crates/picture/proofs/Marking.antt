@@ -36,5 +36,8 @@ module _ (t : List ℕ) (c row : ℕ) (r : Reach) (h : Reaches t (firstOf c) (la
               valley-in = h .low .place;
               not-above = rw (← h .low .density) (leb-true row _ e);
             };
-        no = λ e p. omega (arith, leb-false row (rowOf (r .valley .density .0)) e, row-falls _ _ (h .low .none-beyond (p .valley) (p .valley-in)), p .not-above);
+        no =
+            λ e p.
+            let above = row-falls _ _ (h .low .none-beyond (p .valley) (p .valley-in)) in
+            omega (arith, leb-false row (rowOf (r .valley .density .0)) e, above, p .not-above);
       }

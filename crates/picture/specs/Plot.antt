@@ -42,8 +42,8 @@ Star t c row = row ≡ starRow t c
 abbrev pub Other : List ℕ → ℕ → ℕ → Type 0
 Other t c row = Star t c row → ⊥
 
--- the mark in column c at a row, the codes of `*`, `:` and a blank: a star in its row; a colon in any other row that the curve
--- passes, unless a star stands beside it
+-- the mark in column c at a row, the codes of `*`, `:` and a blank: a star in its row; a colon in any other row that
+-- the curve passes, unless a star stands beside it
 pub data Marked (t : List ℕ) (c row : ℕ) : ℕ → Type 0 where
   star : Star t c row → Marked t c row 42
   left : Other t c row → Star t (c - 1) row → Marked t c row 32

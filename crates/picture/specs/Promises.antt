@@ -1,5 +1,5 @@
--- What the calls promise of a table that is drawn and of one that is refused. Nothing is promised of the bytes here: what is drawn where is
--- in `Place` and `Plot`. Assumes nothing.
+-- What the calls promise of a table that is drawn and of one that is refused. Nothing is promised of the bytes here:
+-- what is drawn where is in `Place` and `Plot`. Assumes nothing.
 use Prim.Native.Nat.{ℕ, _≤_, _<_}
 use mathlib.Core.Path.{_≡_}
 use mathlib.Core.List.{List}
@@ -12,12 +12,13 @@ use Rattle.picture.specs.Svg.{piecesOf}
 abbrev pub countOf : List ℕ → ℕ → ℕ
 countOf t n = pick (sized (length t)) n 0
 
+-- It is not more than n, and a table that has a part at all is not too long.
 pub record Drawn (t : List ℕ) (n r : ℕ) : Type 0 where
   pub count : r ≡ countOf t n
   pub most : r ≤ n
   pub small : 0 < r → length t ≤ 65536
 
--- Part k of a picture that has `count`: its length is at most the buffer's `room`, and 0 exactly where there is no such part.
+-- Part k of a picture that has `count` parts: its length is at most `most`, and 0 exactly where there is no such part.
 pub record Part (most count k r : ℕ) : Type 0 where
   pub room : r ≤ most
   pub some : k < count → 1 ≤ r

@@ -146,17 +146,6 @@ fn axis_line(out: &mut [u8; 512]) -> usize
     end
 }
 
-// The drives that the scale names, each below its column.
-fn scale_line(out: &mut [u8; 512]) -> usize
-    ensures { λ r. ⌜ r ≡ 73 ⌝ }
-{
-    put(
-        out,
-        0,
-        b"         0             drive           32768                        65535",
-    )
-}
-
 pub fn line(table: &[u16], row: usize, out: &mut [u8; 512]) -> usize
     requires { ⌜ row < 22 ⌝ }
     ensures { λ r. ⌜ (1 ≤ r) × (r ≤ 128) ⌝ }
@@ -167,5 +156,10 @@ pub fn line(table: &[u16], row: usize, out: &mut [u8; 512]) -> usize
     if row == ROWS {
         return axis_line(out);
     }
-    scale_line(out)
+    // the drives that the scale names, each below its column
+    put(
+        out,
+        0,
+        b"         0             drive           32768                        65535",
+    )
 }

@@ -1,5 +1,5 @@
-// Text in the buffer that the caller lends: bytes as they are, and numbers below 100,000 in decimal digits. Each `put..`
-// writes from a place on and gives the place after it.
+// Text in the buffer that the caller lends: bytes as they are, and numbers below 100,000 in decimal digits. Each
+// `put..` writes from a place on and gives the place after it.
 ghost use mathlib.Core.Path.{_≡_};
 ghost use Prim.Native.Nat.{_+_, _≤_, _<_, _^_};
 ghost use lib.ListN.{length};
@@ -24,19 +24,13 @@ fn count(n: usize) -> usize
     requires { ⌜ n < 100000 ⌝ }
     ensures { λ r. ⌜ HasDigits n r ⌝ }
 {
-    if n < 10 {
-        return 1;
+    match n {
+        0..=9 => 1,
+        10..=99 => 2,
+        100..=999 => 3,
+        1000..=9999 => 4,
+        _ => 5,
     }
-    if n < 100 {
-        return 2;
-    }
-    if n < 1000 {
-        return 3;
-    }
-    if n < 10000 {
-        return 4;
-    }
-    5
 }
 
 // The digit of n that stands for ten to the power k.

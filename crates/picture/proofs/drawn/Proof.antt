@@ -7,7 +7,9 @@ use Rattle.picture.proofs.drawn.Statement.{statement}
 use Rattle.picture.proofs.drawn.Tie as tie
 
 returns : tie.Need-returns
-returns c = record { count = simp (fails (c .before .sized .ensures) (c .if1 .taken)); most = omega arith; small = λ l. omega arith }
+returns c =
+    let h = fails (c .before .sized .ensures) (c .if1 .taken) in
+    record { count = simp h; most = omega arith; small = λ l. omega arith }
 
 returns-2 : tie.Need-returns-2
 returns-2 c =

@@ -22,7 +22,8 @@ returns-4 c =
     let beyond = c .before .before in
     let behind = beyond .before .before .before in
     let own = behind .before .before .before in
-    passed (λ e. own .if1 .left (cc)) (λ e. behind .if2 .left (cc)) (λ e. beyond .if3 .left (cc)) (c .before .passes .ensures .yes (c .if4 .taken))
+    passed (λ e. own .if1 .left (cc)) (λ e. behind .if2 .left (cc)) (λ e. beyond .if3 .left (cc))
+    (c .before .passes .ensures .yes (c .if4 .taken))
 
 returns-5 : tie.Need-returns-5
 returns-5 c =
