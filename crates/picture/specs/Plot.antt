@@ -11,8 +11,8 @@ abbrev pub starRow : List ℕ → ℕ → ℕ
 starRow t c = rowOf (densityAt t (driveOf c))
 
 -- the column after; the last one, 63, stands for its own, as the first does for its c - 1
-abbrev pub afterOf : ℕ → ℕ
-afterOf c = c + 1 - c / 63
+abbrev pub rightOf : ℕ → ℕ
+rightOf c = c + 1 - c / 63
 
 -- a column is drawn from its first drive to the next column's first, and the last one to 65535
 abbrev pub firstOf : ℕ → ℕ
@@ -47,6 +47,6 @@ Other t c row = Star t c row → ⊥
 pub data Marked (t : List ℕ) (c row : ℕ) : ℕ → Type 0 where
   star : Star t c row → Marked t c row 42
   left : Other t c row → Star t (c - 1) row → Marked t c row 32
-  right : Other t c row → Star t (afterOf c) row → Marked t c row 32
-  passed : Other t c row → Other t (c - 1) row → Other t (afterOf c) row → Passed t c row → Marked t c row 58
+  right : Other t c row → Star t (rightOf c) row → Marked t c row 32
+  passed : Other t c row → Other t (c - 1) row → Other t (rightOf c) row → Passed t c row → Marked t c row 58
   blank : Other t c row → (Passed t c row → ⊥) → Marked t c row 32

@@ -15,7 +15,7 @@ use table::Density;
 use table::Drive;
 ghost use mathlib.Core.Path.{_≡_};
 ghost use Prim.Native.Nat.{_-_, _≤_, _<_};
-ghost use Rattle.picture.specs.Plot.{starRow, afterOf, Passed, Tells, Marked};
+ghost use Rattle.picture.specs.Plot.{starRow, rightOf, Passed, Tells, Marked};
 
 const ROWS: usize = 20;
 
@@ -36,7 +36,7 @@ fn star_row(table: &[u16], column: usize) -> usize
 }
 
 // The columns beside a column. The first and the last stand for the one that they lack.
-fn before(column: usize) -> usize
+fn left_of(column: usize) -> usize
     ensures { λ r. ⌜ r ≡ column - 1 ⌝ }
 {
     if column == 0 {
@@ -45,9 +45,9 @@ fn before(column: usize) -> usize
     column - 1
 }
 
-fn after(column: usize) -> usize
+fn right_of(column: usize) -> usize
     requires { ⌜ column < 64 ⌝ }
-    ensures { λ r. ⌜ (r ≡ afterOf column) × (r < 64) ⌝ }
+    ensures { λ r. ⌜ (r ≡ rightOf column) × (r < 64) ⌝ }
 {
     if column == 63 {
         return 63;
@@ -78,10 +78,10 @@ fn mark(table: &[u16], column: usize, row: usize) -> u8
     if row == star_row(table, column) {
         return b'*';
     }
-    if row == star_row(table, before(column)) {
+    if row == star_row(table, left_of(column)) {
         return b' ';
     }
-    if row == star_row(table, after(column)) {
+    if row == star_row(table, right_of(column)) {
         return b' ';
     }
     if passes(table, column, row) {
