@@ -7,11 +7,11 @@ use native.Mathlib.Omega.{arith}
 use borrow.Author.Tests.{leb-true, leb-false}
 use lib.Dec.{leb}
 use Rattle.table.proofs.Choice.{never}
-use Rattle.picture.specs.declared.reach.Reach.{Reach}
-use Rattle.picture.specs.Place.{rowOf}
-use Rattle.picture.specs.Reach.{Reaches}
+use Rattle.placing.specs.declared.inside.Reach.{Reach}
+use Rattle.placing.specs.Place.{rowOf}
+use Rattle.placing.specs.Reach.{Reaches}
 use Rattle.picture.specs.Plot.{firstOf, lastOf, Passed, Tells}
-use Rattle.picture.proofs.Placing.{row-falls}
+use Rattle.placing.proofs.Placing.{row-falls}
 
 module _ (t : List ℕ) (c row : ℕ) (r : Reach) (h : Reaches t (firstOf c) (lastOf c) r) where
   -- a row above the highest density's is not passed

@@ -3,8 +3,8 @@ use Prim.Native.Nat.{ℕ, _+_, _-_, _*_, _/_, _≤_}
 use mathlib.Core.Path.{_≡_}
 use mathlib.Core.Bool.{Bool, true, false}
 use mathlib.Core.List.{List}
-use Rattle.picture.specs.Place.{densityAt, rowOf, driveOf}
-use Rattle.picture.specs.Reach.{Within}
+use Rattle.placing.specs.Place.{densityAt, rowOf, driveOf}
+use Rattle.placing.specs.Reach.{Within}
 
 -- the row of the density at the column's own drive
 abbrev pub starRow : List ℕ → ℕ → ℕ

@@ -7,9 +7,7 @@ ghost use lib.ListN.{length};
 ghost use Rattle.picture.specs.Svg.{piecesOf};
 ghost use Rattle.picture.specs.Promises.{Drawn, LinePromise, PiecePromise};
 
-mod place;
 mod plot;
-mod reach;
 mod svg;
 mod text;
 

@@ -5,12 +5,12 @@
 // 65535. `:` stands in every other row that the curve passes on its way to the next column, unless a `*` stands right
 // beside it there. So a step is a line, and no drive's density goes undrawn.
 // A number of the scales stands at the row or the column where that density or drive is drawn.
-use crate::place::column_of;
-use crate::place::density_at;
-use crate::place::drive_of;
-use crate::place::row_of;
-use crate::reach::reach_over;
 use crate::text::put;
+use placing::inside::drive_of;
+use placing::inside::reach_over;
+use placing::place::column_of;
+use placing::place::density_at;
+use placing::place::row_of;
 use table::Density;
 use table::Drive;
 ghost use mathlib.Core.Path.{_≡_};

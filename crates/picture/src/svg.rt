@@ -5,16 +5,16 @@
 // to a pixel at the size that the file asks for. Where the curve leaves the densities at a span's two ends, the points
 // of its lowest and of its highest density stand between them, so that no spike is lost. A table of at most 64 entries
 // has a ring at each entry too.
-use crate::place::across;
-use crate::place::down;
-use crate::reach::Point;
-use crate::reach::Reach;
-use crate::reach::point_at;
-use crate::reach::reach_over;
 use crate::text::put;
 use crate::text::put_number;
 use crate::text::put_with;
 use curve::inside::ramp;
+use placing::inside::Point;
+use placing::inside::Reach;
+use placing::inside::point_at;
+use placing::inside::reach_over;
+use placing::place::across;
+use placing::place::down;
 use table::Density;
 use table::Drive;
 use table::inside::wide;

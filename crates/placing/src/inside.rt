@@ -1,11 +1,20 @@
-// How low and how high a curve goes over a span of drives. Every drive is looked up, so that no spike goes unseen.
+// What asks something of its caller: the drive of a column, and how low and how high a curve goes over a span of drives.
+// Every drive is looked up, so that no spike goes unseen.
 use crate::place::density_at;
 use table::Density;
 use table::Drive;
 ghost use mathlib.Core.Path.{_≡_};
-ghost use Prim.Native.Nat.{_≤_};
-ghost use Rattle.table.specs.Choice.{pick};
-ghost use Rattle.picture.specs.Reach.{PointAt, Reaches};
+ghost use Prim.Native.Nat.{_≤_, _<_};
+ghost use Rattle.placing.specs.Place.{driveOf};
+ghost use Rattle.placing.specs.Reach.{PointAt, Replaced, Reaches};
+
+// The drive at which a column shows the curve.
+pub fn drive_of(column: usize) -> Drive
+    requires { ⌜ column < 64 ⌝ }
+    ensures { λ r. ⌜ r .0 ≡ driveOf column ⌝ }
+{
+    Drive((column * 65535 / 63) as u16)
+}
 
 // A drive, and the curve's density there.
 pub struct Point {
@@ -32,7 +41,7 @@ pub fn point_at(table: &[u16], p: usize) -> Point
 
 // The one point, or the other in its place.
 fn replaced(a: Point, b: Point, other: bool) -> Point
-    ensures { λ r. ⌜ r ≡ pick other b a ⌝ }
+    ensures { λ r. ⌜ Replaced a b other r ⌝ }
 {
     if other {
         return b;

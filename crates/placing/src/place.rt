@@ -6,8 +6,8 @@ use table::Drive;
 use table::Looked;
 use table::inside::wide;
 ghost use mathlib.Core.Path.{_≡_};
-ghost use Prim.Native.Nat.{_≤_, _<_};
-ghost use Rattle.picture.specs.Place.{densityAt, rowOf, columnOf, driveOf, downOf};
+ghost use Prim.Native.Nat.{_≤_};
+ghost use Rattle.placing.specs.Place.{densityAt, rowOf, columnOf, downOf};
 
 // The curve's density at a drive, by the promised lookup.
 pub fn density_at(table: &[u16], p: Drive) -> Density
@@ -31,14 +31,6 @@ pub fn column_of(p: Drive) -> usize
     ensures { λ r. ⌜ r ≡ columnOf (p .0) ⌝ }
 {
     wide(p.0) / 1024
-}
-
-// The drive at which a column shows the curve.
-pub fn drive_of(column: usize) -> Drive
-    requires { ⌜ column < 64 ⌝ }
-    ensures { λ r. ⌜ r .0 ≡ driveOf column ⌝ }
-{
-    Drive((column * 65535 / 63) as u16)
 }
 
 // The svg's x of a drive.

@@ -14,7 +14,7 @@ use Rattle.table.specs.declared.Looked.{Looked}
 use Rattle.table.specs.declared.Refusal.{Refusal}
 use Rattle.lookup.specs.Lookup.{lookedUp}
 use Rattle.lookup.specs.Promises.{LookupPromise}
-use Rattle.picture.specs.Place.{densityAt, rowOf, columnOf, driveOf, downOf}
+use Rattle.placing.specs.Place.{densityAt, rowOf, columnOf, driveOf, downOf}
 
 -- the density drawn is the lookup's
 pub density-is : (t : List ℕ) (p : ℕ) → sized (length t) ≡ true → densityAt t p ≡ lookedUp t p

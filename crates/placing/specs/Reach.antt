@@ -1,10 +1,11 @@
 -- How low and how high a curve goes over a span of drives. Assumes nothing.
 use Prim.Native.Nat.{ℕ, _≤_}
 use mathlib.Core.Path.{_≡_}
+use mathlib.Core.Bool.{Bool, true, false}
 use mathlib.Core.List.{List}
-use Rattle.picture.specs.declared.reach.Point.{Point}
-use Rattle.picture.specs.declared.reach.Reach.{Reach}
-use Rattle.picture.specs.Place.{densityAt}
+use Rattle.placing.specs.declared.inside.Point.{Point}
+use Rattle.placing.specs.declared.inside.Reach.{Reach}
+use Rattle.placing.specs.Place.{densityAt}
 
 -- p is a drive of the span
 pub record Within (first last p : ℕ) : Type 0 where
@@ -15,6 +16,11 @@ pub record Within (first last p : ℕ) : Type 0 where
 pub record PointAt (t : List ℕ) (p : ℕ) (x : Point) : Type 0 where
   pub drive : x .drive .0 ≡ p
   pub density : x .density .0 ≡ densityAt t p
+
+-- of two points the first is kept, or where the test says so the other one takes its place
+pub data Replaced (x y : Point) : Bool → Point → Type 0 where
+  kept : Replaced x y false x
+  taken : Replaced x y true y
 
 -- x is a point of the curve from drive `first` to drive `last`, and its density is `upto` that of every other
 pub record Extreme (upto : ℕ → ℕ → Type 0) (t : List ℕ) (first last : ℕ) (x : Point) : Type 0 where

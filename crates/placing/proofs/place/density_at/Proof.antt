@@ -1,8 +1,8 @@
 -- `density_at` meets its contract: the value that the lookup promises, whether it is granted or not. Assumes nothing.
 use borrow.Author.Needs.{needs}
-use Rattle.picture.proofs.Placing.{density-granted, density-refused}
-use Rattle.picture.proofs.place.density_at.Statement.{statement}
-use Rattle.picture.proofs.place.density_at.Tie as tie
+use Rattle.placing.proofs.Placing.{density-granted, density-refused}
+use Rattle.placing.proofs.place.density_at.Statement.{statement}
+use Rattle.placing.proofs.place.density_at.Tie as tie
 
 returns : tie.Need-returns
 returns c =

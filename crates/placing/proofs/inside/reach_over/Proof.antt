@@ -2,11 +2,12 @@
 use Prim.Native.Nat.{_≤_, _-_}
 use mathlib.Core.Path.{_≡_}
 use borrow.Author.Needs.{needs}
+use borrow.Author.Tests.{ltb-true, ltb-false}
 use native.Mathlib.Omega.{arith}
-use Rattle.picture.specs.Reach.{Extreme, AtMost, AtLeast}
-use Rattle.picture.proofs.Widening.{single, lower, higher}
-use Rattle.picture.proofs.reach.reach_over.Statement.{statement}
-use Rattle.picture.proofs.reach.reach_over.Tie as tie
+use Rattle.placing.specs.Reach.{Extreme, AtMost, AtLeast}
+use Rattle.placing.proofs.Widening.{one, widen}
+use Rattle.placing.proofs.inside.reach_over.Statement.{statement}
+use Rattle.placing.proofs.inside.reach_over.Tie as tie
 
 abbrev Inv-loop : tie.InvT-loop
 Inv-loop table first last valley₀ peak₀ p₀ valley peak p =
@@ -17,8 +18,12 @@ abbrev μ-loop : tie.MeasureT-loop
 
 loop-holds : tie.Need-loop-holds Inv-loop μ-loop
 loop-holds c =
-    let both = single _ _ _ (c .point-at .ensures) in
-    (omega arith, omega arith, both .0, both .1)
+    let here = c .point-at .ensures in (
+      omega arith,
+      omega arith,
+      one AtMost (λ d. omega arith) _ _ _ here,
+      one AtLeast (λ d. omega arith) _ _ _ here,
+    )
 
 loop-again : tie.Need-loop-again Inv-loop μ-loop
 loop-again c =
@@ -27,8 +32,10 @@ loop-again c =
     let turn = first .before .before .before .before .before .loop .inv in (
       omega arith,
       omega arith,
-      rw (first .replaced .ensures) (lower _ _ _ _ _ (turn .0) here (turn .2)),
-      rw (c .replaced2 .ensures) (higher _ _ _ _ _ (turn .0) here (turn .3)),
+      widen AtMost (λ d. omega arith) _ _ (first .replaced .ensures) (turn .0) (turn .2) here
+          (λ e d l. omega (arith, ltb-true)) (λ e. omega (arith, ltb-false)),
+      widen AtLeast (λ d. omega arith) _ _ (c .replaced2 .ensures) (turn .0) (turn .3) here
+          (λ e d l. omega (arith, ltb-true)) (λ e. omega (arith, ltb-false)),
     )
 
 returns : tie.Need-returns Inv-loop μ-loop
