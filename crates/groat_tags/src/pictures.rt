@@ -28,11 +28,8 @@ pub fn answer(s: State, io: &mut Streams, table: &[u16]) -> State {
     here
 }
 
-fn line_of(out: &[u8; 128], n: usize) -> &[u8] {
-    bytes(out, n)
-}
-
-fn piece_of(out: &[u8; 512], n: usize) -> &[u8] {
+// What was drawn in a lent room.
+fn drawn_of(out: &[u8; 512], n: usize) -> &[u8] {
     bytes(out, n)
 }
 
@@ -45,10 +42,10 @@ fn put_break(s: State, io: &mut Streams, line: usize) -> State {
 }
 
 fn put_line(s: State, io: &mut Streams, table: &[u16], line: usize) -> State {
-    let mut out = [0u8; 128];
+    let mut out = [0u8; 512];
     let n = picture::plot_line(table, line, &mut out);
     let here = put_break(s, io, line);
-    put(here, io, line_of(&out, n))
+    put(here, io, drawn_of(&out, n))
 }
 
 fn put_lines(s: State, io: &mut Streams, table: &[u16], lines: usize) -> State {
@@ -78,7 +75,7 @@ fn draw_piece(fd: i32, table: &[u16], k: usize, before: usize) -> Drawn {
     let mut out = [0u8; 512];
     let n = picture::svg_piece(table, k, &mut out);
     Drawn {
-        fine: io::write_all(fd, piece_of(&out, n)),
+        fine: io::write_all(fd, drawn_of(&out, n)),
         bytes: std::num::wrapping_add_usize(before, n),
     }
 }

@@ -1,3 +1,2 @@
--- `Marking`: the plot's marks. `Lengths`: the lengths that are promised.
+-- `Marking`: the plot's marks.
 pub mod Marking
-pub mod Lengths

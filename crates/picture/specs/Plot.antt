@@ -1,10 +1,8 @@
 -- What stands in a column of the plot at a row. Assumes nothing.
-use Prim.Native.Nat.{ℕ, _+_, _-_, _*_, _≤_, _<_}
+use Prim.Native.Nat.{ℕ, _+_, _-_, _*_, _/_, _≤_}
 use mathlib.Core.Path.{_≡_}
 use mathlib.Core.Bool.{Bool, true, false}
 use mathlib.Core.List.{List}
-use lib.Dec.{ltb, eqb}
-use Rattle.table.specs.Choice.{pick}
 use Rattle.placing.specs.Place.{densityAt, rowOf, driveOf}
 use Rattle.placing.specs.Reach.{Within}
 
@@ -12,12 +10,16 @@ use Rattle.placing.specs.Reach.{Within}
 abbrev pub starRow : List ℕ → ℕ → ℕ
 starRow t c = rowOf (densityAt t (driveOf c))
 
--- a column is drawn from its first drive to the next column's first
+-- the column after; the last one, 63, stands for its own, as the first does for its c - 1
+abbrev pub rightOf : ℕ → ℕ
+rightOf c = c + 1 - c / 63
+
+-- a column is drawn from its first drive to the next column's first, and the last one to 65535
 abbrev pub firstOf : ℕ → ℕ
 firstOf c = c * 1024
 
-unfoldable pub lastOf : ℕ → ℕ
-lastOf c = pick (ltb c 63) (c * 1024 + 1024) 65535
+abbrev pub lastOf : ℕ → ℕ
+lastOf c = c * 1024 + 1024 - c / 63
 
 -- in column c the curve is at one drive not below the row, and at one not above it
 pub record Passed (t : List ℕ) (c row : ℕ) : Type 0 where
@@ -33,24 +35,18 @@ pub record Tells (r : Bool) (P : Type 0) : Type 0 where
   pub yes : r ≡ true → P
   pub no : r ≡ false → P → ⊥
 
--- the column before, or the one after, has its star in the row
-unfoldable pub starLeft : List ℕ → ℕ → ℕ → Bool
-starLeft t c row = pick (ltb 0 c) (eqb row (starRow t (c - 1))) false
+-- column c has its star in the row, or in another
+abbrev pub Star : List ℕ → ℕ → ℕ → Type 0
+Star t c row = row ≡ starRow t c
 
-unfoldable pub starRight : List ℕ → ℕ → ℕ → Bool
-starRight t c row = pick (ltb c 63) (eqb row (starRow t (c + 1))) false
+abbrev pub Other : List ℕ → ℕ → ℕ → Type 0
+Other t c row = Star t c row → ⊥
 
--- the mark in column c at a row, the codes of `*`, `:` and a blank: a star in its row; a colon in any other row that the curve
--- passes, unless a star stands beside it
-pub record Marked (t : List ℕ) (c row b : ℕ) : Type 0 where
-  pub star : row ≡ starRow t c → b ≡ 42
-  pub left : (row ≡ starRow t c → ⊥) → starLeft t c row ≡ true → b ≡ 32
-  pub right : (row ≡ starRow t c → ⊥) → starRight t c row ≡ true → b ≡ 32
-  pub passed : (row ≡ starRow t c → ⊥) → starLeft t c row ≡ false → starRight t c row ≡ false → Passed t c row → b ≡ 58
-  pub blank : (row ≡ starRow t c → ⊥) → (Passed t c row → ⊥) → b ≡ 32
-
--- the length of a line of the plot: within the lent buffer, and 0 exactly where there is no such line
-pub record LineLength (row r : ℕ) : Type 0 where
-  pub room : r ≤ 128
-  pub some : row < 22 → 1 ≤ r
-  pub none : 22 ≤ row → r ≡ 0
+-- the mark in column c at a row, the codes of `*`, `:` and a blank: a star in its row; a colon in any other row that
+-- the curve passes, unless a star stands beside it
+pub data Marked (t : List ℕ) (c row : ℕ) : ℕ → Type 0 where
+  star : Star t c row → Marked t c row 42
+  left : Other t c row → Star t (c - 1) row → Marked t c row 32
+  right : Other t c row → Star t (rightOf c) row → Marked t c row 32
+  passed : Other t c row → Other t (c - 1) row → Other t (rightOf c) row → Passed t c row → Marked t c row 58
+  blank : Other t c row → (Passed t c row → ⊥) → Marked t c row 32

@@ -1,14 +1,19 @@
-// The svg file. Its user units are drives across and densities up, so that each point in it can be read: x is the drive, y is 65535 less the density.
+// The svg file. Its user units are drives across and densities up, so that each point in it can be read: x is the
+// drive, y is 65535 less the density.
 //
-// The curve is one line through the lookup's answers at every 51st drive, both ends included: 1,286 points, about two to a pixel at the size that the file
-// asks for. Where the curve leaves the densities at a span's two ends, the points of its lowest and of its highest density stand between them, so that no spike
-// is lost. A table of at most 64 entries has a ring at each entry too.
-use crate::digits;
+// The curve is one line through the lookup's answers at every 51st drive, both ends included: 1,286 points, about two
+// to a pixel at the size that the file asks for. Where the curve leaves the densities at a span's two ends, the points
+// of its lowest and of its highest density stand between them, so that no spike is lost. A table of at most 64 entries
+// has a ring at each entry too.
+use crate::text::put;
+use crate::text::put_number;
+use crate::text::put_with;
 use curve::inside::ramp;
+use placing::inside::Point;
 use placing::inside::Reach;
+use placing::inside::point_at;
 use placing::inside::reach_over;
 use placing::place::across;
-use placing::place::density_at;
 use placing::place::down;
 use table::Density;
 use table::Drive;
@@ -19,13 +24,7 @@ ghost use mathlib.Core.Path.{_≡_};
 ghost use lib.ListN.{length};
 ghost use Rattle.picture.specs.Svg.{ringsOf, piecesOf, Filled};
 
-// The head's pieces, of which five are ticks; a piece for each span of drives; one for the last point; one for each ring; and the end.
-const FIRST_TICK: usize = 4;
-
-const AXES: usize = 9;
-
-const CURVE: usize = 10;
-
+// The head's pieces; a piece for each span of drives; one for the last point; one for each ring; and the end.
 const FIRST_SPAN: usize = 11;
 
 const LAST_POINT: usize = 1296;
@@ -34,6 +33,25 @@ const FIRST_RING: usize = 1297;
 
 // The drives of a span: 1,285 spans make 65535.
 const SPAN: usize = 51;
+
+// The head's texts that are the same in every file.
+const OPEN: [u8; 137] = *b"<svg xmlns=\"http://www.w3.org/2000/svg\" width=\"768\" height=\"768\" \
+    viewBox=\"-8000 -4800 76800 76800\" role=\"img\">\n<title>Tone curve</title>\n";
+
+const STYLE: [u8; 280] =
+    *b"<style>\nsvg{background:#fff}\ntext{fill:#1b1b1b;font:1700px sans-serif}\n\
+    .grid{stroke:#d4d4d4;stroke-width:80}\n.axis{fill:none;stroke:#1b1b1b;stroke-width:140}\n\
+    .curve{fill:none;stroke:#0057b8;stroke-width:260;stroke-linejoin:round}\n\
+    .entry{fill:#fff;stroke:#0057b8;stroke-width:180}\n";
+
+const DARK_STYLE: [u8; 193] =
+    *b"@media (prefers-color-scheme:dark){\nsvg{background:#14161a}\ntext{fill:#ececec}\n\
+    .grid{stroke:#3a3f47}\n.axis{stroke:#ececec}\n.curve{stroke:#6cb6ff}\n\
+    .entry{fill:#14161a;stroke:#6cb6ff}\n}\n</style>\n";
+
+const AXES: [u8; 160] = *b"<path class=\"axis\" d=\"M0,0V65535H65535\"/>\n\
+    <text x=\"32768\" y=\"70700\" text-anchor=\"middle\">drive</text>\n\
+    <text x=\"0\" y=\"-2000\" text-anchor=\"middle\">density</text>\n";
 
 fn rings(entries: usize) -> usize
     ensures { λ r. ⌜ (r ≡ ringsOf entries) × (r ≤ 64) × (r ≤ entries) ⌝ }
@@ -50,50 +68,6 @@ pub fn pieces(entries: usize) -> usize
     FIRST_RING + rings(entries) + 1
 }
 
-fn put(out: &mut [u8; 512], at: usize, text: &[u8]) -> usize
-    requires { ⌜ at + length (now text) ≤ 512 ⌝ }
-    ensures { λ r. ⌜ r ≡ at + length (now (text .entry)) ⌝ }
-{
-    let mut i = 0;
-    while i < text.len() {
-        out[at + i] = text[i];
-        i += 1;
-    }
-    at + text.len()
-}
-
-fn put_number(out: &mut [u8; 512], at: usize, n: usize) -> usize
-    requires { ⌜ (at + 5 ≤ 512) × (n < 100000) ⌝ }
-    ensures { λ r. ⌜ (at < r) × (r ≤ at + 5) ⌝ }
-{
-    let count = digits::count(n);
-    let mut i = 0;
-    while i < count {
-        out[at + i] = digits::digit(n, count - 1 - i);
-        i += 1;
-    }
-    at + count
-}
-
-// A text, and a number after it.
-fn put_with(out: &mut [u8; 512], at: usize, text: &[u8], n: usize) -> usize
-    requires { ⌜ (at + length (now text) + 5 ≤ 512) × (n < 100000) ⌝ }
-    ensures { λ r. ⌜ (at < r) × (r ≤ at + length (now (text .entry)) + 5) ⌝ }
-{
-    let a = put(out, at, text);
-    put_number(out, a, n)
-}
-
-fn open(out: &mut [u8; 512]) -> usize
-    ensures { λ r. ⌜ Filled r ⌝ }
-{
-    put(
-        out,
-        0,
-        b"<svg xmlns=\"http://www.w3.org/2000/svg\" width=\"768\" height=\"768\" viewBox=\"-8000 -4800 76800 76800\" role=\"img\">\n<title>Tone curve</title>\n",
-    )
-}
-
 fn description(entries: usize, out: &mut [u8; 512]) -> usize
     requires { ⌜ entries ≤ 65536 ⌝ }
     ensures { λ r. ⌜ Filled r ⌝ }
@@ -104,37 +78,6 @@ fn description(entries: usize, out: &mut [u8; 512]) -> usize
         a,
         b". In the curve's line x is the drive, y is 65535 less the density.</desc>\n",
     )
-}
-
-fn style(out: &mut [u8; 512]) -> usize
-    ensures { λ r. ⌜ Filled r ⌝ }
-{
-    put(
-        out,
-        0,
-        b"<style>\nsvg{background:#fff}\ntext{fill:#1b1b1b;font:1700px sans-serif}\n.grid{stroke:#d4d4d4;stroke-width:80}\n.axis{fill:none;stroke:#1b1b1b;stroke-width:140}\n.curve{fill:none;stroke:#0057b8;stroke-width:260;stroke-linejoin:round}\n.entry{fill:#fff;stroke:#0057b8;stroke-width:180}\n",
-    )
-}
-
-fn dark_style(out: &mut [u8; 512]) -> usize
-    ensures { λ r. ⌜ Filled r ⌝ }
-{
-    put(
-        out,
-        0,
-        b"@media (prefers-color-scheme:dark){\nsvg{background:#14161a}\ntext{fill:#ececec}\n.grid{stroke:#3a3f47}\n.axis{stroke:#ececec}\n.curve{stroke:#6cb6ff}\n.entry{fill:#14161a;stroke:#6cb6ff}\n}\n</style>\n",
-    )
-}
-
-// The numbers of both scales.
-fn tick_value(k: usize) -> u16 {
-    match k {
-        0 => 0,
-        1 => 16384,
-        2 => 32768,
-        3 => 49152,
-        _ => 65535,
-    }
 }
 
 // A line across the drawing at a drive, and the number below it.
@@ -166,16 +109,6 @@ fn tick(value: u16, out: &mut [u8; 512]) -> usize
     put_density_tick(out, at, Density(value))
 }
 
-fn axes(out: &mut [u8; 512]) -> usize
-    ensures { λ r. ⌜ Filled r ⌝ }
-{
-    put(
-        out,
-        0,
-        b"<path class=\"axis\" d=\"M0,0V65535H65535\"/>\n<text x=\"32768\" y=\"70700\" text-anchor=\"middle\">drive</text>\n<text x=\"0\" y=\"-2000\" text-anchor=\"middle\">density</text>\n",
-    )
-}
-
 // How many entries the table has, and the start of the curve's line.
 fn curve_open(entries: usize, out: &mut [u8; 512]) -> usize
     requires { ⌜ entries ≤ 65536 ⌝ }
@@ -190,29 +123,34 @@ fn curve_open(entries: usize, out: &mut [u8; 512]) -> usize
     put(out, a, b"</text>\n<polyline class=\"curve\" points=\"")
 }
 
+// The head, with five numbers on both scales.
 fn head(entries: usize, k: usize, out: &mut [u8; 512]) -> usize
     requires { ⌜ entries ≤ 65536 ⌝ }
     ensures { λ r. ⌜ Filled r ⌝ }
 {
     match k {
-        0 => open(out),
+        0 => put(out, 0, &OPEN),
         1 => description(entries, out),
-        2 => style(out),
-        3 => dark_style(out),
-        AXES => axes(out),
-        CURVE => curve_open(entries, out),
-        _ => tick(tick_value(k - FIRST_TICK), out),
+        2 => put(out, 0, &STYLE),
+        3 => put(out, 0, &DARK_STYLE),
+        4 => tick(0, out),
+        5 => tick(16384, out),
+        6 => tick(32768, out),
+        7 => tick(49152, out),
+        8 => tick(65535, out),
+        9 => put(out, 0, &AXES),
+        _ => curve_open(entries, out),
     }
 }
 
 // A point of the curve's line, after a blank or a new line.
-fn put_point(out: &mut [u8; 512], at: usize, before: u8, p: Drive, d: Density) -> usize
+fn put_point(out: &mut [u8; 512], at: usize, before: u8, x: Point) -> usize
     requires { ⌜ at ≤ 500 ⌝ }
     ensures { λ r. ⌜ (at < r) × (r ≤ at + 12) ⌝ }
 {
     out[at] = before;
-    let a = put_number(out, at + 1, across(p));
-    put_with(out, a, b",", down(d))
+    let a = put_number(out, at + 1, across(x.drive));
+    put_with(out, a, b",", down(x.density))
 }
 
 // Ten spans stand on a line of the file.
@@ -228,28 +166,34 @@ fn outside(d: Density, a: Density, b: Density) -> bool {
     if d.0 < a.0 {
         return d.0 < b.0;
     }
-    if a.0 < d.0 {
-        return b.0 < d.0;
-    }
-    false
+    a.0 < d.0 && b.0 < d.0
 }
 
 // A point within a span, where it is outside the densities of the span's ends.
-fn put_outside(
-    out: &mut [u8; 512],
-    at: usize,
-    p: Drive,
-    d: Density,
-    first: Density,
-    last: Density,
-) -> usize
+fn put_outside(out: &mut [u8; 512], at: usize, x: Point, first: Density, last: Density) -> usize
     requires { ⌜ at ≤ 500 ⌝ }
     ensures { λ r. ⌜ (at ≤ r) × (r ≤ at + 12) ⌝ }
 {
-    if !outside(d, first, last) {
+    if !outside(x.density, first, last) {
         return at;
     }
-    put_point(out, at, b' ', p, d)
+    put_point(out, at, b' ', x)
+}
+
+// Two points within a span.
+fn put_two(
+    out: &mut [u8; 512],
+    at: usize,
+    x: Point,
+    y: Point,
+    first: Density,
+    last: Density,
+) -> usize
+    requires { ⌜ (1 ≤ at) × (at ≤ 12) ⌝ }
+    ensures { λ r. ⌜ Filled r ⌝ }
+{
+    let a = put_outside(out, at, x, first, last);
+    put_outside(out, a, y, first, last)
 }
 
 // The lowest and the highest point of a span, the earlier one first.
@@ -258,15 +202,11 @@ fn put_between(out: &mut [u8; 512], at: usize, r: Reach, first: Density, last: D
     ensures { λ r. ⌜ Filled r ⌝ }
 {
     let valley = r.valley;
-    let low = r.low;
     let peak = r.peak;
-    let high = r.high;
-    if valley.0 < peak.0 {
-        let a = put_outside(out, at, valley, low, first, last);
-        return put_outside(out, a, peak, high, first, last);
+    if valley.drive.0 < peak.drive.0 {
+        return put_two(out, at, valley, peak, first, last);
     }
-    let a = put_outside(out, at, peak, high, first, last);
-    put_outside(out, a, valley, low, first, last)
+    put_two(out, at, peak, valley, first, last)
 }
 
 // A span's first point, and those between its ends.
@@ -276,18 +216,22 @@ fn span(table: &[u16], k: usize, out: &mut [u8; 512]) -> usize
 {
     let from = k * SPAN;
     let to = from + SPAN;
-    let p = Drive(from as u16);
-    let first = density_at(table, p);
-    let last = density_at(table, Drive(to as u16));
-    let at = put_point(out, 0, before_span(k), p, first);
-    put_between(out, at, reach_over(table, from, to), first, last)
+    let first = point_at(table, from);
+    let last = point_at(table, to);
+    let at = put_point(out, 0, before_span(k), first);
+    put_between(
+        out,
+        at,
+        reach_over(table, from, to),
+        first.density,
+        last.density,
+    )
 }
 
 fn last_point(table: &[u16], out: &mut [u8; 512]) -> usize
     ensures { λ r. ⌜ Filled r ⌝ }
 {
-    let p = Drive(65535);
-    let at = put_point(out, 0, b' ', p, density_at(table, p));
+    let at = put_point(out, 0, b' ', point_at(table, 65535));
     put(out, at, b"\"/>\n")
 }
 

@@ -1,4 +1,5 @@
--- Density is drawn up and drive across: the ends of both scales, and that neither is ever drawn the other way round. Assumes nothing.
+-- Density is drawn up and drive across: the ends of both scales, and that neither is ever drawn the other way round.
+-- Assumes nothing.
 use mathlib.Core.Path.{_≡_, _∙_, refl, sym, ap}
 use mathlib.Core.Bool.{true}
 use mathlib.Core.List.{List}
@@ -21,11 +22,13 @@ unfolding densityAt
 density-is t p h = simp h
 
 -- whether it is granted or refused
-pub density-granted : {t : List ℕ} {p : Drive} {r : Looked} (d : Density) → LookupPromise t p r → r ≡ Looked.At d → d .0 ≡ densityAt t (p .0)
+pub density-granted : {t : List ℕ} {p : Drive} {r : Looked} (d : Density) → LookupPromise t p r → r ≡ Looked.At d
+    → d .0 ≡ densityAt t (p .0)
 unfolding densityAt
 density-granted d a e = ap valueOfLooked (sym e) ∙ a .value
 
-pub density-refused : {t : List ℕ} {p : Drive} {r : Looked} (why : Refusal) → LookupPromise t p r → r ≡ Looked.Refused why → 0 ≡ densityAt t (p .0)
+pub density-refused : {t : List ℕ} {p : Drive} {r : Looked} (why : Refusal) → LookupPromise t p r
+    → r ≡ Looked.Refused why → 0 ≡ densityAt t (p .0)
 unfolding densityAt
 density-refused why a e = ap valueOfLooked (sym e) ∙ a .value
 

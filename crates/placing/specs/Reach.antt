@@ -1,33 +1,40 @@
 -- How low and how high a curve goes over a span of drives. Assumes nothing.
 use Prim.Native.Nat.{ℕ, _≤_}
 use mathlib.Core.Path.{_≡_}
+use mathlib.Core.Bool.{Bool, true, false}
 use mathlib.Core.List.{List}
-use lib.Dec.{ltb}
-use Rattle.table.specs.Choice.{pick}
-use Rattle.table.specs.declared.Drive.{Drive}
-use Rattle.table.specs.declared.Density.{Density}
+use Rattle.placing.specs.declared.inside.Point.{Point}
 use Rattle.placing.specs.declared.inside.Reach.{Reach}
 use Rattle.placing.specs.Place.{densityAt}
-
--- a span's reach with one drive more, and the density there
-unfoldable pub widenedBy : Reach → Drive → Density → Reach
-widenedBy r p d =
-    pick (ltb (d .0) (r .low .0))
-    (record { valley = p; low = d; peak = r .peak; high = r .high })
-    (pick (ltb (r .high .0) (d .0))
-    (record { valley = r .valley; low = r .low; peak = p; high = d })
-    r)
 
 -- p is a drive of the span
 pub record Within (first last p : ℕ) : Type 0 where
   pub from : first ≤ p
   pub to : p ≤ last
 
+-- x is the curve's point at drive p
+pub record PointAt (t : List ℕ) (p : ℕ) (x : Point) : Type 0 where
+  pub drive : x .drive .0 ≡ p
+  pub density : x .density .0 ≡ densityAt t p
+
+-- of two points the first is kept, or where the test says so the other one takes its place
+pub data Replaced (x y : Point) : Bool → Point → Type 0 where
+  kept : Replaced x y false x
+  taken : Replaced x y true y
+
+-- x is a point of the curve from drive `first` to drive `last`, and its density is `upto` that of every other
+pub record Extreme (upto : ℕ → ℕ → Type 0) (t : List ℕ) (first last : ℕ) (x : Point) : Type 0 where
+  pub place : Within first last (x .drive .0)
+  pub density : x .density .0 ≡ densityAt t (x .drive .0)
+  pub none-beyond : (p : ℕ) → Within first last p → upto (x .density .0) (densityAt t p)
+
+abbrev pub AtMost : ℕ → ℕ → Type 0
+AtMost d e = d ≤ e
+
+abbrev pub AtLeast : ℕ → ℕ → Type 0
+AtLeast d e = e ≤ d
+
 -- r has the lowest and the highest density from drive `first` to drive `last`, each with a drive that has it
 pub record Reaches (t : List ℕ) (first last : ℕ) (r : Reach) : Type 0 where
-  pub valley : Within first last (r .valley .0)
-  pub low : r .low .0 ≡ densityAt t (r .valley .0)
-  pub none-lower : (p : ℕ) → Within first last p → r .low .0 ≤ densityAt t p
-  pub peak : Within first last (r .peak .0)
-  pub high : r .high .0 ≡ densityAt t (r .peak .0)
-  pub none-higher : (p : ℕ) → Within first last p → densityAt t p ≤ r .high .0
+  pub low : Extreme AtMost t first last (r .valley)
+  pub high : Extreme AtLeast t first last (r .peak)

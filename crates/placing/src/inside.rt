@@ -1,12 +1,12 @@
-// What asks something of its caller: the drive of a column, and how low and how high a curve goes over a span of drives, where every drive is looked up, so that no
-// spike of the curve goes unseen.
+// What asks something of its caller: the drive of a column, and how low and how high a curve goes over a span of drives.
+// Every drive is looked up, so that no spike goes unseen.
 use crate::place::density_at;
 use table::Density;
 use table::Drive;
 ghost use mathlib.Core.Path.{_≡_};
 ghost use Prim.Native.Nat.{_≤_, _<_};
 ghost use Rattle.placing.specs.Place.{driveOf};
-ghost use Rattle.placing.specs.Reach.{widenedBy, Reaches};
+ghost use Rattle.placing.specs.Reach.{PointAt, Replaced, Reaches};
 
 // The drive at which a column shows the curve.
 pub fn drive_of(column: usize) -> Drive
@@ -16,39 +16,37 @@ pub fn drive_of(column: usize) -> Drive
     Drive((column * 65535 / 63) as u16)
 }
 
-// The lowest and the highest density of a span, each with the first drive that has it.
-pub struct Reach {
-    pub valley: Drive,
-    pub low: Density,
-    pub peak: Drive,
-    pub high: Density,
+// A drive, and the curve's density there.
+pub struct Point {
+    pub drive: Drive,
+    pub density: Density,
 }
 
-// The span with one drive more.
-fn widened(r: Reach, p: Drive, d: Density) -> Reach
-    ensures { λ w. ⌜ w ≡ widenedBy r p d ⌝ }
+// The lowest and the highest point of a span: of several the first.
+pub struct Reach {
+    pub valley: Point,
+    pub peak: Point,
+}
+
+pub fn point_at(table: &[u16], p: usize) -> Point
+    requires { ⌜ p ≤ 65535 ⌝ }
+    ensures { λ r. ⌜ PointAt (now (table .entry)) p r ⌝ }
 {
-    let valley = r.valley;
-    let low = r.low;
-    let peak = r.peak;
-    let high = r.high;
-    if d.0 < low.0 {
-        return Reach {
-            valley: p,
-            low: d,
-            peak,
-            high,
-        };
+    let drive = Drive(p as u16);
+    Point {
+        drive,
+        density: density_at(table, drive),
     }
-    if high.0 < d.0 {
-        return Reach {
-            valley,
-            low,
-            peak: p,
-            high: d,
-        };
+}
+
+// The one point, or the other in its place.
+fn replaced(a: Point, b: Point, other: bool) -> Point
+    ensures { λ r. ⌜ Replaced a b other r ⌝ }
+{
+    if other {
+        return b;
     }
-    r
+    a
 }
 
 // The reach from drive `first` to drive `last`.
@@ -56,19 +54,14 @@ pub fn reach_over(table: &[u16], first: usize, last: usize) -> Reach
     requires { ⌜ (first ≤ last) × (last ≤ 65535) ⌝ }
     ensures { λ r. ⌜ Reaches (now (table .entry)) first last r ⌝ }
 {
-    let start = Drive(first as u16);
-    let density = density_at(table, start);
-    let mut r = Reach {
-        valley: start,
-        low: density,
-        peak: start,
-        high: density,
-    };
+    let mut valley = point_at(table, first);
+    let mut peak = valley;
     let mut p = first;
     while p < last {
         p += 1;
-        let drive = Drive(p as u16);
-        r = widened(r, drive, density_at(table, drive));
+        let here = point_at(table, p);
+        valley = replaced(valley, here, here.density.0 < valley.density.0);
+        peak = replaced(peak, here, peak.density.0 < here.density.0);
     }
-    r
+    Reach { valley, peak }
 }

@@ -1,4 +1,5 @@
-// Where a drive and a density are drawn: the one file that knows which way is up. The scales' numbers are placed by the same functions as the curve.
+// Where a drive and a density are drawn: the one file that knows which way is up. The scales' numbers are placed by the
+// same functions as the curve.
 use lookup::lut_interp_linear16;
 use table::Density;
 use table::Drive;

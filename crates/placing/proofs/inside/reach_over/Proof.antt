@@ -1,67 +1,50 @@
--- `reach_over` meets its contract: the invariant is that r is the reach so far, up to p. Assumes nothing.
+-- `reach_over` meets its contract: the invariant is that both points are the extremes so far, up to p. Assumes nothing.
 use Prim.Native.Nat.{_≤_, _-_}
-use mathlib.Core.Path.{_≡_, refl}
+use mathlib.Core.Path.{_≡_}
 use borrow.Author.Needs.{needs}
-use Rattle.placing.specs.Reach.{Reaches}
-use Rattle.placing.proofs.Widening.{single, widen}
+use borrow.Author.Tests.{ltb-true, ltb-false}
 use native.Mathlib.Omega.{arith}
+use Rattle.placing.specs.Reach.{Extreme, AtMost, AtLeast}
+use Rattle.placing.proofs.Widening.{one, widen}
 use Rattle.placing.proofs.inside.reach_over.Statement.{statement}
 use Rattle.placing.proofs.inside.reach_over.Tie as tie
 
 abbrev Inv-loop : tie.InvT-loop
-Inv-loop table first last r₀ p₀ r p = (first ≤ p) × (p ≤ last) × Reaches table first p r
+Inv-loop table first last valley₀ peak₀ p₀ valley peak p =
+    (first ≤ p) × (p ≤ last) × Extreme AtMost table first p valley × Extreme AtLeast table first p peak
 
 abbrev μ-loop : tie.MeasureT-loop
-μ-loop table first last r₀ p₀ r p = last - p
-
-cast-t9 : tie.Need-cast-t9 Inv-loop μ-loop
-cast-t9 c = omega arith
-
-density-at-requires : tie.Need-density-at-requires Inv-loop μ-loop
-density-at-requires c κs = search needs
+μ-loop table first last valley₀ peak₀ p₀ valley peak p = last - p
 
 loop-holds : tie.Need-loop-holds Inv-loop μ-loop
-loop-holds c = (omega arith, omega arith, single _ _ _ _ refl (c .density-at .ensures))
-
-add-p : tie.Need-add-p Inv-loop μ-loop
-add-p c = omega arith
-
-cast-t11 : tie.Need-cast-t11 Inv-loop μ-loop
-cast-t11 c = omega arith
-
-density-at-requires-2 : tie.Need-density-at-requires-2 Inv-loop μ-loop
-density-at-requires-2 c κs = search needs
-
-widened-requires : tie.Need-widened-requires Inv-loop μ-loop
-widened-requires c κs = search needs
-
-loop-less : tie.Need-loop-less Inv-loop μ-loop
-loop-less c = omega arith
+loop-holds c =
+    let here = c .point-at .ensures in (
+      omega arith,
+      omega arith,
+      one AtMost (λ d. omega arith) _ _ _ here,
+      one AtLeast (λ d. omega arith) _ _ _ here,
+    )
 
 loop-again : tie.Need-loop-again Inv-loop μ-loop
 loop-again c =
-    let turn = c .before .before .before .loop .inv in
-    (omega arith, omega arith, rw (c .widened .ensures) (widen _ _ _ _ _ _ (turn .0) (turn .2) refl (c .before .density-at2 .ensures)))
+    let first = c .before .before .before in
+    let here = first .before .before .before .point-at2 .ensures in
+    let turn = first .before .before .before .before .before .loop .inv in (
+      omega arith,
+      omega arith,
+      widen AtMost (λ d. omega arith) _ _ (first .replaced .ensures) (turn .0) (turn .2) here
+          (λ e d l. omega (arith, ltb-true)) (λ e. omega (arith, ltb-false)),
+      widen AtLeast (λ d. omega arith) _ _ (c .replaced2 .ensures) (turn .0) (turn .3) here
+          (λ e d l. omega (arith, ltb-true)) (λ e. omega (arith, ltb-false)),
+    )
 
 returns : tie.Need-returns Inv-loop μ-loop
 returns c =
-    let s = c .before .before .before .before in
-    let e : c .before .loop .p ≡ s .args .last = omega arith in
-    rw e at (c .before .loop .inv .2)
+    let e : c .before .loop .p ≡ c .before .before .before .before .args .last = omega arith in
+    rw (← e) (record { low = c .before .loop .inv .2; high = c .before .loop .inv .3 })
 
 pub reach-over-spec : {M : Type 1} → statement M
 reach-over-spec =
     tie.close
-    (tie.spec
-    Inv-loop
-    μ-loop
-    cast-t9
-    density-at-requires
-    loop-holds
-    add-p
-    cast-t11
-    density-at-requires-2
-    widened-requires
-    loop-less
-    loop-again
-    returns)
+    (tie.spec Inv-loop μ-loop (λ c κs. omega arith) loop-holds (λ c. omega arith) (λ c κs. omega arith)
+    (λ c κs. search needs) (λ c κs. search needs) (λ c. omega arith) loop-again returns)

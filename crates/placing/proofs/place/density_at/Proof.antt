@@ -4,15 +4,6 @@ use Rattle.placing.proofs.Placing.{density-granted, density-refused}
 use Rattle.placing.proofs.place.density_at.Statement.{statement}
 use Rattle.placing.proofs.place.density_at.Tie as tie
 
-lut-interp-linear16-requires : tie.Need-lut-interp-linear16-requires
-lut-interp-linear16-requires c κs = search needs
-
-enum-known-d : tie.Need-enum-known-d
-enum-known-d c = search needs
-
-enum-told : tie.Need-enum-told
-enum-told c = search needs
-
 returns : tie.Need-returns
 returns c =
     let called = c .before .before .before in
@@ -25,4 +16,4 @@ returns-2 c =
 
 pub density-at-spec : {M : Type 1} → statement M
 density-at-spec =
-    tie.close (tie.spec lut-interp-linear16-requires enum-known-d enum-told returns returns-2)
+    tie.close (tie.spec (λ c κs. search needs) (λ c. search needs) (λ c. search needs) returns returns-2)
