@@ -139,8 +139,9 @@ fn passthrough(s: State, io: &mut Streams) -> State {
     put_passed(here, io, done, values(&out, n))
 }
 
+// Every count from 8 on is refused alike.
 fn unified(codes: &Codes, n: usize) -> Unified {
-    let mut parameters = [0.0f32; 65537];
+    let mut parameters = [0.0f32; 8];
     hold(codes, n, &mut parameters);
     ParametricCurve::new(values(&parameters, n))
 }

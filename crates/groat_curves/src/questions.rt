@@ -283,7 +283,6 @@ fn put_end(s: State, io: &mut Streams, answers: usize) -> State {
     here
 }
 
-// Least inputs are found by one call, which tests the table once for all of them. Where it is refused, each is.
 fn put_row(
     asked: Asked,
     s: State,
@@ -294,13 +293,27 @@ fn put_row(
 ) -> State {
     let question = asked.question;
     if let Question::LeastInput = question {
-        let mut found = [0u32; 65537];
-        let done = least_of(table, codes, s.got as usize, &mut found);
-        if let Done::Yes = done {
-            return put_first_found(s, io, &found, asked.answers, true);
+        if s.got > 1 {
+            return put_least(asked, s, io, codes, table, floats);
         }
     }
     put_each(asked, s, io, codes, table, floats)
+}
+
+// Least inputs are found by one call, which tests the table once for all of them. Where it is refused, each is.
+fn put_least(
+    asked: Asked,
+    s: State,
+    io: &mut Streams,
+    codes: &Codes,
+    table: &[u16],
+    floats: &[f32],
+) -> State {
+    let mut found = [0u32; 65537];
+    match least_of(table, codes, s.got as usize, &mut found) {
+        Done::Yes => put_first_found(s, io, &found, asked.answers, true),
+        Done::Refused(_) => put_each(asked, s, io, codes, table, floats),
+    }
 }
 
 // The answers to the questions, each by itself.

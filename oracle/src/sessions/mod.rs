@@ -11,7 +11,8 @@ use crate::transcript::Transcript;
 /// Asks until the transcript has so many answers, or asks what it always asks.
 type Session = fn(&mut Transcript, &mut Generator, u64);
 
-/// Each session, how many of a thousand answers it is for, and what the transcript says of it.
+/// Each session, how many answers it is to have for each thousand that are asked for, and what the transcript says of
+/// it. These are 1,039 together, so that a run has some four in a hundred more than it was asked for.
 const SESSIONS: [(Session, u64, &str); 25] = [
     (on_tables::corners, 0, "Document 01's numbers, and tables that are known to be caught on one step or another"),
     (on_tables::refusals, 0, "Each refusal and each pair of them: no table, two good ones, and one that is too long"),
@@ -34,9 +35,9 @@ const SESSIONS: [(Session, u64, &str); 25] = [
     (numbers::fixed8, 14, "8.8 numbers"),
     (numbers::narrow, 22, "f64 to f32: every class, and what lies at, beside and halfway between f32s"),
     (numbers::raw, 22, "Raw 16.16 numbers"),
-    (numbers::param, 6, "Parametric curves"),
-    (numbers::compare, 6, "Parameters compared, with differences about 1e-4"),
-    (numbers::para, 2, "para tags"),
+    (numbers::param, 25, "Parametric curves"),
+    (numbers::compare, 25, "Parameters compared, with differences about 1e-4"),
+    (numbers::para, 3, "para tags"),
     (on_tables::random, 256, "Tables of every shape, and of other lengths"),
 ];
 

@@ -72,8 +72,8 @@ fn any_raw(g: &mut Generator) -> i32 {
     }
 }
 
-/// Curves that are asked about at least, and pairs that are compared: each is a request of its own, which takes groat
-/// longer than a whole list of questions, so that they are few among many.
+/// Curves that are asked about at least, and pairs that are compared, however short the run is. Each is a request of
+/// its own, and takes groat longer than a list of questions does.
 const LEAST: u64 = 200;
 
 /// Counts from 0 to 8, most of them such as a curve has.
