@@ -1,10 +1,9 @@
 // The bench program: the whole library at a prompt. It reads standard input to its end, one request a line, and
 // answers each with a line. docs/GROAT.md is its language.
-use groat_answers::asks_help;
+use groat_answers::after_rows;
 use groat_answers::before_rows;
 use groat_lines::Codes;
 use groat_lines::INPUT_END;
-use groat_lines::NO_SUCH_REQUEST;
 use groat_lines::State;
 use groat_lines::Streams;
 use groat_lines::Tag;
@@ -13,13 +12,11 @@ use groat_lines::ends_line;
 use groat_lines::next_line;
 use groat_lines::opened;
 use groat_lines::pass_line;
-use groat_lines::put;
 use groat_lines::put_byte;
 use groat_lines::put_problem;
 use groat_lines::read_name;
 use groat_lines::settled;
 use groat_lines::skip_spaces;
-use groat_lines::wrong;
 
 const COMMENT: u16 = b'#' as u16;
 
@@ -52,17 +49,14 @@ fn answer(
     tag: &mut Tag,
 ) -> State {
     let mut here = groat_curves::answer(before_rows(s, io), io, codes, table, floats);
-    if here.asked {
+    if here.met {
         return here;
     }
     here = groat_tags::answer(here, io, codes, table, tag);
-    if here.asked {
+    if here.met {
         return here;
     }
-    if asks_help(here) {
-        return put(here, io, b"help: these lines");
-    }
-    wrong(here, NO_SUCH_REQUEST)
+    after_rows(here, io)
 }
 
 // One line, up to the first byte of the next.

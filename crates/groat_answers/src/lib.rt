@@ -1,7 +1,7 @@
-// What the requests share: their rows (help.rt), what is kept (kept.rt), and, here, how answers are written: `ok`,
+// What the requests share: how a line meets their rows, what is kept, and, here, how answers are written: `ok`,
 // `refused N`, and lists of numbers, floats and bytes.
-mod help;
 mod kept;
+mod rows;
 
 use groat_lines::State;
 use groat_lines::Streams;
@@ -9,9 +9,6 @@ use groat_lines::put;
 use groat_lines::put_byte;
 use groat_lines::put_decimal;
 use groat_lines::put_hex;
-pub use help::asks_help;
-pub use help::at_row;
-pub use help::before_rows;
 pub use kept::bytes;
 pub use kept::bytes_mut;
 pub use kept::entries;
@@ -25,6 +22,9 @@ pub use kept::with_table;
 pub use kept::with_tag;
 use parametric::ParametricCurve;
 use parametric::Unified;
+pub use rows::after_rows;
+pub use rows::at_row;
+pub use rows::before_rows;
 use table::Done;
 use table::Refusal;
 use table::number;
@@ -74,6 +74,21 @@ pub fn put_shorts(s: State, io: &mut Streams, list: &[u16]) -> State {
     while i < list.len() {
         here = put_comma(here, io, i);
         here = put_short(here, io, list[i]);
+        i += 1;
+    }
+    here
+}
+
+pub fn put_wide(s: State, io: &mut Streams, x: u32) -> State {
+    put_decimal(s, io, wide(x))
+}
+
+pub fn put_wides(s: State, io: &mut Streams, list: &[u32]) -> State {
+    let mut here = put_none(s, io, list.len());
+    let mut i = 0;
+    while i < list.len() {
+        here = put_comma(here, io, i);
+        here = put_wide(here, io, list[i]);
         i += 1;
     }
     here

@@ -31,11 +31,11 @@ pub fn answer(
     floats: &mut [f32],
 ) -> State {
     let mut here = at_row(s, io, b"floats LIST: keep the list of f32");
-    if here.asked {
+    if here.met {
         return hold_floats(here, io, codes, floats);
     }
     here = at_row(here, io, b"flookup LIST: the kept floats at each f32");
-    if here.asked {
+    if here.met {
         return ask(
             Question::LookupF32,
             Place::Single,
@@ -47,11 +47,11 @@ pub fn answer(
         );
     }
     here = at_row(here, io, b"passthrough N: the straight line of N floats");
-    if here.asked {
+    if here.met {
         return passthrough(here, io);
     }
     here = at_row(here, io, b"fixed8 LIST: the f32 of each 8.8 number");
-    if here.asked {
+    if here.met {
         return ask(
             Question::Fixed8,
             Place::Short,
@@ -63,11 +63,11 @@ pub fn answer(
         );
     }
     here = at_row(here, io, b"raw LIST: the f32 of each raw 16.16 number");
-    if here.asked {
+    if here.met {
         return ask(Question::Raw16, Place::Raw, here, io, codes, table, floats);
     }
     here = at_row(here, io, b"narrow LIST: the f32 nearest to each f64");
-    if here.asked {
+    if here.met {
         return ask(
             Question::Narrow,
             Place::Double,
@@ -83,7 +83,7 @@ pub fn answer(
         io,
         b"param LIST: the parametric curve of 1, 3, 4, 5 or 7 f32",
     );
-    if here.asked {
+    if here.met {
         return param(here, io, codes);
     }
     here = at_row(
@@ -91,7 +91,7 @@ pub fn answer(
         io,
         b"compare LIST LIST: whether two lists of f32 are close",
     );
-    if here.asked {
+    if here.met {
         return compare(here, io, codes);
     }
     here

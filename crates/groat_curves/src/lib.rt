@@ -1,5 +1,6 @@
 // The requests on curves and floats. Each has a row: the line that `help` shows of it, which begins with its name and
-// its words, and below that what answers it. A new request is a row more, and a function of its own.
+// its words, and below that what answers it. A new request is a row more and a function of its own; one that asks a
+// list of questions is a row, a case of `Question` and an arm of `put_answer`.
 mod floats;
 mod questions;
 mod tables;
@@ -17,11 +18,11 @@ pub fn answer(
     floats: &mut [f32; 65537],
 ) -> State {
     let mut here = tables::answer(s, io, codes, table);
-    if here.asked {
+    if here.met {
         return here;
     }
     here = questions::answer(here, io, codes, table, floats);
-    if here.asked {
+    if here.met {
         return here;
     }
     floats::answer(here, io, codes, table, floats)

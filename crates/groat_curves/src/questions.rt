@@ -1,5 +1,5 @@
-// The requests that ask of the table and of the kept floats: a list of questions, each handed to the library's call,
-// with the answers written as the questions come in.
+// Requests that ask of the table, and `ask`, by which any list of questions is answered: each is handed to the
+// library's call, and the answers are written as the questions come in.
 use crate::tables::hold;
 use gamma::Coded;
 use gamma::lut_interp_linear_gamma_impl;
@@ -12,6 +12,8 @@ use groat_answers::put_refused;
 use groat_answers::put_refused_item;
 use groat_answers::put_short;
 use groat_answers::put_shorts;
+use groat_answers::put_wide;
+use groat_answers::put_wides;
 use groat_answers::values;
 use groat_lines::Codes;
 use groat_lines::List;
@@ -27,7 +29,6 @@ use groat_lines::last_number;
 use groat_lines::no_more_words;
 use groat_lines::open_list;
 use groat_lines::put_byte;
-use groat_lines::put_decimal;
 use groat_lines::raw;
 use groat_lines::read_number;
 use groat_lines::settled;
@@ -38,6 +39,7 @@ use interp::lut_interp_linear;
 use interp::lut_interp_linear_float;
 use inverse::lut_inverse_interp16;
 use least::least_input;
+use least_row::least_input_row;
 use lookup::lut_interp_linear16;
 use rounding::nearest_f64_to_f32;
 use rounding::s15_fixed16_number_to_float;
@@ -49,7 +51,7 @@ use table::Looked;
 use table::Refusal;
 use table::Sought;
 
-// What is asked of each item of a list.
+// What is asked of each item of a list. Its call is an arm of `put_answer`.
 pub enum Question {
     Lookup,
     LeastInput,
@@ -80,7 +82,7 @@ pub fn answer(
     floats: &[f32],
 ) -> State {
     let mut here = at_row(s, io, b"lookup LIST: the density at each drive");
-    if here.asked {
+    if here.met {
         return ask(
             Question::Lookup,
             Place::Short,
@@ -96,7 +98,7 @@ pub fn answer(
         io,
         b"least LIST: the least drive that reaches each density",
     );
-    if here.asked {
+    if here.met {
         return ask(
             Question::LeastInput,
             Place::Short,
@@ -112,7 +114,7 @@ pub fn answer(
         io,
         b"row LIST: the densities at the drives, by one call",
     );
-    if here.asked {
+    if here.met {
         return look_up_row(here, io, codes, entries(table, here.table));
     }
     here = at_row(
@@ -120,7 +122,7 @@ pub fn answer(
         io,
         b"leastrow LIST: the least drives of the densities, by one call; 65536 for none",
     );
-    if here.asked {
+    if here.met {
         return least_row(here, io, codes, entries(table, here.table));
     }
     here = at_row(
@@ -128,7 +130,7 @@ pub fn answer(
         io,
         b"inverse LIST: the Rust's inverse of each density",
     );
-    if here.asked {
+    if here.met {
         return ask(
             Question::Inverse,
             Place::Short,
@@ -140,7 +142,7 @@ pub fn answer(
         );
     }
     here = at_row(here, io, b"invert M: the inverted table of M entries");
-    if here.asked {
+    if here.met {
         return invert(here, io, entries(table, here.table));
     }
     here = at_row(
@@ -148,7 +150,7 @@ pub fn answer(
         io,
         b"gamma N DEPTH LIST: the integer gamma lookup at each input",
     );
-    if here.asked {
+    if here.met {
         return ask_gamma(here, io, codes, table, floats);
     }
     here = at_row(
@@ -156,7 +158,7 @@ pub fn answer(
         io,
         b"house LIST: the house curve's entry at each index",
     );
-    if here.asked {
+    if here.met {
         return ask(
             Question::HouseEntry,
             Place::Any,
@@ -168,7 +170,7 @@ pub fn answer(
         );
     }
     here = at_row(here, io, b"dlookup LIST: the table at each f64 from 0 to 1");
-    if here.asked {
+    if here.met {
         return ask(
             Question::LookupF64,
             Place::Double,
@@ -254,7 +256,7 @@ fn ask_each(
     while turns > 0 && goes_on_asking(list, here) {
         let filled = fill(list, here, io, place, codes, 1024, true);
         let after = filled.s;
-        here = settled(put_row(asked, after, io, codes, table, floats), io);
+        here = settled(put_answers(asked, after, io, codes, table, floats), io);
         list = filled.list;
         asked.answers = std::num::wrapping_add_usize(asked.answers, after.got as usize);
         turns -= 1;
@@ -283,7 +285,7 @@ fn put_end(s: State, io: &mut Streams, answers: usize) -> State {
     here
 }
 
-fn put_row(
+fn put_answers(
     asked: Asked,
     s: State,
     io: &mut Streams,
@@ -294,26 +296,19 @@ fn put_row(
     let question = asked.question;
     if let Question::LeastInput = question {
         if s.got > 1 {
-            return put_least(asked, s, io, codes, table, floats);
+            return put_least(asked, s, io, codes, table);
         }
     }
     put_each(asked, s, io, codes, table, floats)
 }
 
-// Least inputs are found by one call, which tests the table once for all of them. Where it is refused, each is.
-fn put_least(
-    asked: Asked,
-    s: State,
-    io: &mut Streams,
-    codes: &Codes,
-    table: &[u16],
-    floats: &[f32],
-) -> State {
-    let mut found = [0u32; 65537];
-    match least_of(table, codes, s.got as usize, &mut found) {
-        Done::Yes => put_first_found(s, io, &found, asked.answers, true),
-        Done::Refused(_) => put_each(asked, s, io, codes, table, floats),
-    }
+// Least inputs are found by one call, which tests the table once for all of them.
+fn put_least(asked: Asked, s: State, io: &mut Streams, codes: &Codes, table: &[u16]) -> State {
+    let mut values = [0u16; 1024];
+    let mut found = [0u32; 1024];
+    hold(codes, s.got as usize, &mut values);
+    let done = least_of(table, &values, s.got as usize, &mut found);
+    put_found(s, io, done, &found, asked.answers)
 }
 
 // The answers to the questions, each by itself.
@@ -396,48 +391,51 @@ fn put_interpolated(s: State, io: &mut Streams, answer: Interpolated) -> State {
 }
 
 // The least inputs of the first n values.
-fn least_of(table: &[u16], codes: &Codes, n: usize, found: &mut [u32]) -> Done {
-    let mut values = [0u16; 65537];
-    hold(codes, n, &mut values);
-    least_of_first(table, &values, n, found)
-}
-
-fn least_of_first(table: &[u16], values: &[u16], n: usize, found: &mut [u32]) -> Done {
+fn least_of(table: &[u16], values: &[u16], n: usize, found: &mut [u32]) -> Done {
     if n <= found.len() {
-        return least_row::least_input_row(table, entries(values, n), &mut found[0..n]);
+        return least_input_row(table, entries(values, n), &mut found[0..n]);
     }
     Done::Refused(Refusal::OutputLength)
 }
 
-// A least input of a row. 65,536 says that the value is above the last entry, for which an item of its own is refused.
-fn put_found(s: State, io: &mut Streams, position: u32, items: bool) -> State {
-    if items && position > 65535 {
-        return put_refused_item(s, io, Refusal::AboveLast);
+// An item of a list of questions: refused with the row, or alone where 65,536 says that no position reaches its value.
+fn put_item(s: State, io: &mut Streams, done: Done, position: u32) -> State {
+    match done {
+        Done::Yes => {
+            if position > 65535 {
+                return put_refused_item(s, io, Refusal::AboveLast);
+            }
+            put_wide(s, io, position)
+        }
+        Done::Refused(why) => put_refused_item(s, io, why),
     }
-    put_decimal(s, io, position as u64)
 }
 
-// As many least inputs as were asked for, with so many before them.
-fn put_first_found(s: State, io: &mut Streams, found: &[u32], before: usize, items: bool) -> State {
+// As many least inputs as were asked for, with so many answers before them.
+fn put_found(s: State, io: &mut Streams, done: Done, found: &[u32], before: usize) -> State {
     let n = s.got as usize;
     let mut here = s;
     let mut i = 0;
     while i < found.len() && i < n {
         here = put_comma(here, io, std::num::wrapping_add_usize(before, i));
-        here = put_found(here, io, found[i], items);
+        here = put_item(here, io, done, found[i]);
         i += 1;
     }
     here
 }
 
-fn put_all_found(s: State, io: &mut Streams, done: Done, found: &[u32]) -> State {
-    if let Done::Refused(why) = done {
-        return put_refused(s, io, why);
+fn first_wides(found: &[u32], n: usize) -> &[u32] {
+    if n < found.len() {
+        return &found[0..n];
     }
-    if s.got == 0 {
-        return put_byte(s, io, b'-');
+    found
+}
+
+fn put_whole_row(s: State, io: &mut Streams, done: Done, found: &[u32]) -> State {
+    match done {
+        Done::Yes => put_wides(s, io, first_wides(found, s.got as usize)),
+        Done::Refused(why) => put_refused(s, io, why),
     }
-    put_first_found(s, io, found, 0, false)
 }
 
 fn least_row(s: State, io: &mut Streams, codes: &mut Codes, table: &[u16]) -> State {
@@ -445,9 +443,12 @@ fn least_row(s: State, io: &mut Streams, codes: &mut Codes, table: &[u16]) -> St
     if !is_fine(here) {
         return here;
     }
+    let n = here.got as usize;
+    let mut values = [0u16; 65537];
     let mut found = [0u32; 65537];
-    let done = least_of(table, codes, here.got as usize, &mut found);
-    put_all_found(here, io, done, &found)
+    hold(codes, n, &mut values);
+    let done = least_of(table, &values, n, &mut found);
+    put_whole_row(here, io, done, &found)
 }
 
 fn put_filled(s: State, io: &mut Streams, done: Done, out: &[u16]) -> State {

@@ -35,11 +35,11 @@ use table::Done;
 
 pub fn answer(s: State, io: &mut Streams, codes: &mut Codes, table: &mut [u16]) -> State {
     let mut here = at_row(s, io, b"table LIST: keep the list as the table");
-    if here.asked {
+    if here.met {
         return hold_table(here, io, codes, table);
     }
     here = at_row(here, io, b"show: the table");
-    if here.asked {
+    if here.met {
         return put_shorts(here, io, entries(table, here.table));
     }
     here = at_row(
@@ -47,19 +47,19 @@ pub fn answer(s: State, io: &mut Streams, codes: &mut Codes, table: &mut [u16]) 
         io,
         b"start N: the straight curve of N entries is the table",
     );
-    if here.asked {
+    if here.met {
         return start(here, io, table);
     }
     here = at_row(here, io, b"accept: whether the table may be worked on");
-    if here.asked {
+    if here.met {
         return accept(here, io, entries(table, here.table));
     }
     here = at_row(here, io, b"nudge I V: set entry I of the table to V");
-    if here.asked {
+    if here.met {
         return nudge(here, io, table);
     }
     here = at_row(here, io, b"usehouse: the house curve is the table");
-    if here.asked {
+    if here.met {
         return use_house(here, io, table);
     }
     here = at_row(
@@ -67,7 +67,7 @@ pub fn answer(s: State, io: &mut Streams, codes: &mut Codes, table: &mut [u16]) 
         io,
         b"bake: the table's answers at every position are the table",
     );
-    if here.asked {
+    if here.met {
         return bake(here, io, table);
     }
     here = at_row(
@@ -75,11 +75,11 @@ pub fn answer(s: State, io: &mut Streams, codes: &mut Codes, table: &mut [u16]) 
         io,
         b"monotonic rising, monotonic falling: whether it goes that way",
     );
-    if here.asked {
+    if here.met {
         return monotonic(here, io, entries(table, here.table));
     }
     here = at_row(here, io, b"degenerated: whether it stands still at an end");
-    if here.asked {
+    if here.met {
         return degenerated(here, io, entries(table, here.table));
     }
     here
@@ -135,6 +135,7 @@ fn use_house(s: State, io: &mut Streams, table: &mut [u16]) -> State {
     table_after(put_done_of(s, io, done, 1024), done, 1024)
 }
 
+// A part of a local array is lent on by a function that takes it as a slice: of the array itself no rule lends it.
 fn baked(table: &[u16], out: &mut [u16]) -> Done {
     rows::bake(table, entries_mut(out, 65536))
 }

@@ -1,7 +1,7 @@
 // Where the bench program stands, its standard input and its standard output. Input comes in byte by byte out of one
 // half of a buffer, which is filled again whenever it is used up. Output is gathered in the other half, and written
 // out when that is full and wherever `settled` is called: before the program may have to wait for input, so that
-// nobody waits for an answer. Of each half 65,535 bytes are used, so that how many are is any 16-bit number.
+// nobody waits for an answer. Each half uses 65,535 bytes, so that a count of them is any 16-bit number.
 ghost use mathlib.Core.Path.{_≡_};
 ghost use Prim.Native.Nat.{_≤_, _<_};
 
@@ -21,10 +21,9 @@ const CARRIAGE_RETURN: u16 = b'\r' as u16;
 pub struct State {
     // the byte of the line that is looked at, or one of the two ends
     pub now: u16,
-    // the name that was read last, as a number (words.rt), and whether the row of requests that was looked at last has
-    // it
+    // the name that was read last, as a number (words.rt), and whether the row that it met last is to answer the line
     pub name: u64,
-    pub asked: bool,
+    pub met: bool,
     // what was read last: a number, or how many items or bytes
     pub got: u64,
     // what is wrong with the line: 0 for nothing, or a number of problems.rt
@@ -47,7 +46,7 @@ pub fn opened() -> State {
     State {
         now: LINE_END,
         name: 0,
-        asked: false,
+        met: false,
         got: 0,
         problem: 0,
         broken: false,

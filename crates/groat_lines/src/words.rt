@@ -8,8 +8,8 @@ use crate::streams::Streams;
 use crate::streams::advance;
 ghost use Prim.Native.Nat.{_≤_};
 
-// A path that is being read. One that fills its buffer may go on, and is refused as a path.
-pub type Word = [u8; 4096];
+// A path that is being read. One that fills its buffer may go on, so no file is opened under it (groat_tags).
+pub type Path = [u8; 4096];
 
 const SPACE: u16 = b' ' as u16;
 
@@ -105,6 +105,14 @@ fn longer(name: u64, byte: u8) -> u64 {
     name * 37 + l
 }
 
+// A line's word that is no name has the number of none, so that no row has it.
+fn known(name: u64) -> u64 {
+    if name == NO_NAME {
+        return 0;
+    }
+    name
+}
+
 // The next word of the line as a name.
 pub fn read_name(s: State, io: &mut Streams) -> State {
     let mut here = next_word(s, io);
@@ -115,7 +123,7 @@ pub fn read_name(s: State, io: &mut Streams) -> State {
         here = advance(here, io);
         turns -= 1;
     }
-    here.name = name;
+    here.name = known(name);
     here
 }
 
@@ -135,22 +143,22 @@ pub fn name_of(text: &[u8]) -> Name {
     Name { code, letters: i }
 }
 
-// The word with a byte more, where there is room for it.
-fn keep_byte(word: &mut Word, n: u64, byte: u8) -> u64 {
+// The path with a byte more, where there is room for it.
+fn keep_byte(path: &mut Path, n: u64, byte: u8) -> u64 {
     if n < 4096 {
-        word[n as usize] = byte;
+        path[n as usize] = byte;
         return n + 1;
     }
     n
 }
 
-// The last word of the line, put into a lent buffer.
-pub fn last_word(s: State, io: &mut Streams, word: &mut Word) -> State {
+// The last word of the line as a path, which is put into a lent buffer.
+pub fn last_path(s: State, io: &mut Streams, path: &mut Path) -> State {
     let mut here = next_word(s, io);
     let mut n: u64 = 0;
     let mut turns = u64::MAX;
     while turns > 0 && !ends_word(here.now) {
-        n = keep_byte(word, n, byte_of(here.now));
+        n = keep_byte(path, n, byte_of(here.now));
         here = advance(here, io);
         turns -= 1;
     }

@@ -1,18 +1,18 @@
 // The tag from a file and to one. A file is written beside its place and renamed, so that no half file is left. A path
-// of 4,096 bytes may go on past its buffer, and is refused.
+// of 4,096 bytes may go on past its buffer: no file is begun under it here, and the kit's `open_read` opens none.
 use crate::tags::hold;
 use groat_answers::bytes;
 use groat_answers::bytes_mut;
 use groat_answers::put_ok;
 use groat_lines::CANNOT_OPEN;
 use groat_lines::CANNOT_WRITE;
+use groat_lines::Path;
 use groat_lines::State;
 use groat_lines::Streams;
 use groat_lines::TOO_MANY_BYTES;
 use groat_lines::Tag;
-use groat_lines::Word;
 use groat_lines::is_fine;
-use groat_lines::last_word;
+use groat_lines::last_path;
 use groat_lines::wrong;
 
 enum Loaded {
@@ -25,7 +25,7 @@ enum Loaded {
 // time being.
 pub struct Draft {
     pub fd: i32,
-    name: usize,
+    name_length: usize,
 }
 
 // What a read of one byte more says of a file of which n bytes came.
@@ -67,19 +67,19 @@ fn load_named(s: State, io: &mut Streams, path: &[u8], tag: &mut [u8]) -> State 
     }
 }
 
-// The first n bytes of a word.
-pub fn path_of(word: &Word, n: u64) -> &[u8] {
-    bytes(word, n as usize)
+// The first n bytes, as a path.
+pub fn path_of(path: &Path, n: u64) -> &[u8] {
+    bytes(path, n as usize)
 }
 
 // `load PATH`.
 pub fn load(s: State, io: &mut Streams, tag: &mut [u8]) -> State {
-    let mut word = [0u8; 4096];
-    let here = last_word(s, io, &mut word);
+    let mut path = [0u8; 4096];
+    let here = last_path(s, io, &mut path);
     if !is_fine(here) {
         return here;
     }
-    load_named(here, io, path_of(&word, here.got), tag)
+    load_named(here, io, path_of(&path, here.got), tag)
 }
 
 fn end_after(byte: u8, next: usize, before: usize) -> usize {
@@ -101,14 +101,14 @@ fn directory(path: &[u8]) -> usize {
     end
 }
 
-fn keep_byte(name: &mut Word, at: usize, byte: u8) {
+fn keep_byte(name: &mut Path, at: usize, byte: u8) {
     if at < 4096 {
         name[at] = byte;
     }
 }
 
 // Puts bytes into a name from one place on.
-fn write_at(name: &mut Word, at: usize, text: &[u8]) {
+fn write_at(name: &mut Path, at: usize, text: &[u8]) {
     let mut i = 0;
     while i < text.len() {
         keep_byte(name, std::num::wrapping_add_usize(at, i), text[i]);
@@ -121,9 +121,12 @@ fn make(name: &mut [u8], n: usize) -> i32 {
 }
 
 // Makes a file in the directory of a path, under a name of its own that is put into a lent buffer.
-pub fn begin(path: &[u8], name: &mut Word) -> Draft {
+pub fn begin(path: &[u8], name: &mut Path) -> Draft {
     if path.len() >= 4096 {
-        return Draft { fd: -1, name: 0 };
+        return Draft {
+            fd: -1,
+            name_length: 0,
+        };
     }
     let before = directory(path);
     write_at(name, 0, path);
@@ -131,12 +134,12 @@ pub fn begin(path: &[u8], name: &mut Word) -> Draft {
     let length = std::num::wrapping_add_usize(before, 12);
     Draft {
         fd: make(name, length),
-        name: length,
+        name_length: length,
     }
 }
 
 // Whether the file is safe on its disk, for everyone to read.
-fn settled(fd: i32) -> bool {
+fn synced(fd: i32) -> bool {
     if libc::fchmod(fd, 0o644) < 0 {
         return false;
     }
@@ -155,10 +158,10 @@ fn placed(whole: bool, name: &[u8], path: &[u8]) -> bool {
 }
 
 // Ends a draft of which everything was written or not; whether the file is in its place.
-fn finish(draft: Draft, written: bool, path: &[u8], name: &Word) -> bool {
-    let whole = written && settled(draft.fd);
+fn finish(draft: Draft, written: bool, path: &[u8], name: &Path) -> bool {
+    let whole = written && synced(draft.fd);
     let closed = libc::close(draft.fd);
-    placed(whole && closed == 0, bytes(name, draft.name), path)
+    placed(whole && closed == 0, bytes(name, draft.name_length), path)
 }
 
 // The answer to a request that drafted a file of n bytes.
@@ -169,7 +172,7 @@ pub fn finished(
     written: bool,
     n: usize,
     path: &[u8],
-    name: &Word,
+    name: &Path,
 ) -> State {
     if finish(draft, written, path, name) {
         return put_ok(s, io, n);
@@ -191,10 +194,10 @@ fn save_named(s: State, io: &mut Streams, path: &[u8], tag: &[u8]) -> State {
 
 // `save PATH`.
 pub fn save(s: State, io: &mut Streams, tag: &[u8]) -> State {
-    let mut word = [0u8; 4096];
-    let here = last_word(s, io, &mut word);
+    let mut path = [0u8; 4096];
+    let here = last_path(s, io, &mut path);
     if !is_fine(here) {
         return here;
     }
-    save_named(here, io, path_of(&word, here.got), tag)
+    save_named(here, io, path_of(&path, here.got), tag)
 }

@@ -17,7 +17,7 @@ pub fn answer(
     tag: &mut Tag,
 ) -> State {
     let here = tags::answer(s, io, codes, table, tag);
-    if here.asked {
+    if here.met {
         return here;
     }
     pictures::answer(here, io, table)

@@ -10,7 +10,7 @@ use groat_lines::CANNOT_OPEN;
 use groat_lines::State;
 use groat_lines::Streams;
 use groat_lines::is_fine;
-use groat_lines::last_word;
+use groat_lines::last_path;
 use groat_lines::put;
 use groat_lines::put_byte;
 use groat_lines::wrong;
@@ -18,11 +18,11 @@ use table::Refusal;
 
 pub fn answer(s: State, io: &mut Streams, table: &[u16]) -> State {
     let mut here = at_row(s, io, b"plot: the table drawn in text");
-    if here.asked {
+    if here.met {
         return plot(here, io, entries(table, here.table));
     }
     here = at_row(here, io, b"svg PATH: the table drawn as a picture");
-    if here.asked {
+    if here.met {
         return svg(here, io, entries(table, here.table));
     }
     here
@@ -105,13 +105,13 @@ fn draw_to(s: State, io: &mut Streams, path: &[u8], table: &[u16]) -> State {
 }
 
 fn svg(s: State, io: &mut Streams, table: &[u16]) -> State {
-    let mut word = [0u8; 4096];
-    let here = last_word(s, io, &mut word);
+    let mut path = [0u8; 4096];
+    let here = last_path(s, io, &mut path);
     if !is_fine(here) {
         return here;
     }
     if !table::sized(table.len()) {
         return put_refused(here, io, Refusal::TableLength);
     }
-    draw_to(here, io, path_of(&word, here.got), table)
+    draw_to(here, io, path_of(&path, here.got), table)
 }

@@ -43,35 +43,35 @@ pub fn answer(
     tag: &mut [u8],
 ) -> State {
     let mut here = at_row(s, io, b"tag BYTES: keep the bytes as the tag");
-    if here.asked {
+    if here.met {
         return hold_tag(here, io, tag);
     }
     here = at_row(here, io, b"hex: the tag's bytes");
-    if here.asked {
+    if here.met {
         return put_bytes(here, io, bytes(tag, here.tag));
     }
     here = at_row(here, io, b"load PATH: the file's bytes are the tag");
-    if here.asked {
+    if here.met {
         return load(here, io, tag);
     }
     here = at_row(here, io, b"save PATH: write the tag's bytes to the file");
-    if here.asked {
+    if here.met {
         return save(here, io, bytes(tag, here.tag));
     }
     here = at_row(here, io, b"count: how many entries the curv tag has");
-    if here.asked {
+    if here.met {
         return count(here, io, bytes(tag, here.tag));
     }
     here = at_row(here, io, b"read: the curv tag's entries are the table");
-    if here.asked {
+    if here.met {
         return read(here, io, bytes(tag, here.tag), table);
     }
     here = at_row(here, io, b"part: the bytes of the curv tag's entries");
-    if here.asked {
+    if here.met {
         return part(here, io, bytes(tag, here.tag));
     }
     here = at_row(here, io, b"write: the curv tag of the table is the tag");
-    if here.asked {
+    if here.met {
         return write(here, io, entries(table, here.table), tag);
     }
     here = at_row(
@@ -79,11 +79,11 @@ pub fn answer(
         io,
         b"para: the para tag's count and its seven raw numbers",
     );
-    if here.asked {
+    if here.met {
         return read_para(here, io, bytes(tag, here.tag));
     }
     here = at_row(here, io, b"curve: the para tag as a parametric curve");
-    if here.asked {
+    if here.met {
         return read_curve(here, io, bytes(tag, here.tag));
     }
     here = at_row(
@@ -91,7 +91,7 @@ pub fn answer(
         io,
         b"writepara T LIST: the para tag of type T and seven raw numbers is the tag",
     );
-    if here.asked {
+    if here.met {
         return write_para(here, io, codes, tag);
     }
     here

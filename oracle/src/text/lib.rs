@@ -1,8 +1,8 @@
 //! The text of moxcms, taken in unchanged from the folder that `MOXCMS_SRC` names at build time, and around it
 //! stand-ins of ours for what it asks for and the comparison does not want.
 //!
-//! It is built twice. As `moxcms` it is the Rust as it stands. As `widened`, with `--cfg wide`, the names `i32` and `u32`
-//! mean `i64` and `u64` inside trc.rs: where the Rust overflows, the same text then gives the whole-number answer.
+//! It is built twice. As `moxcms` it is the Rust as it stands. As `widened`, with `--cfg wide`, the names `i32` and
+//! `u32` mean `i64` and `u64` inside trc.rs: where the Rust overflows, the same text then gives the whole-number answer.
 //!
 //! With `--cfg fused` the stand-in for `MulAdd` rounds once, otherwise twice (stand_ins.rs).
 
