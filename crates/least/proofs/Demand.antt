@@ -9,6 +9,7 @@ use native.Mathlib.Omega.{arith}
 use lib.ListN.{length}
 use Rattle.table.specs.Sizes.{sized}
 use Rattle.table.specs.Order.{Nondecreasing, Passed, lastEntry}
+use Rattle.table.specs.Turns.{Throughout}
 use Rattle.table.specs.declared.Sought.{Sought}
 use Rattle.table.specs.declared.Refusal.{Refusal}
 use Rattle.table.proofs.Choice.{below?}
@@ -17,7 +18,7 @@ use Rattle.lookup.specs.Lookup.{lookedUp}
 use Rattle.lookup.specs.Demand.{LookupIn, positionOf, sampleOf, LookupObeys}
 use Rattle.lookup.proofs.LookupLaws.{sample-is, lookup-demand}
 use Rattle.curve.specs.Promises.{Sitting}
-use Rattle.nudge.specs.Calls.{Turn, Throughout, WholeSitting}
+use Rattle.nudge.specs.Calls.{Turn, WholeSitting}
 use Rattle.nudge.proofs.Sitting.{sitting-demand, throughout-map}
 use Rattle.least.specs.Least.{leastOf}
 use Rattle.least.specs.Demand.{LeastIn, LeastObeys, LeastDemand, Demand3}

@@ -15,10 +15,11 @@ use Rattle.table.proofs.Choice.{below?}
 use Rattle.lookup.specs.Lookup.{lookedUp}
 use Rattle.lookup.proofs.LookupLaws.{lookup-reaches}
 use Rattle.curve.specs.Promises.{sittingOn}
-use Rattle.nudge.specs.Calls.{Call, nudge, Throughout}
+use Rattle.nudge.specs.Calls.{Call, nudge}
 use Rattle.nudge.proofs.Sitting.{turnsOf, accept-begins, every-list-goes}
 use Rattle.least.specs.Least.{leastOf}
 use Rattle.table.specs.Order.{Passed}
+use Rattle.table.specs.Turns.{Throughout}
 use Rattle.least.specs.Promises.{LeastPromise}
 use Rattle.least.proofs.LeastLaws.{least-at}
 use Rattle.least.proofs.Demand.{CurveObeys, sitting-obeys}

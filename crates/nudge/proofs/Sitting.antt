@@ -9,6 +9,7 @@ use lib.ListN.{length, set, length-set}
 use Rattle.table.specs.Sizes.{sized, spanned}
 use Rattle.table.specs.Order.{nondecreasing, Passed, SixteenBits}
 use Rattle.table.specs.Refusals.{Verdict, ifGranted}
+use Rattle.table.specs.Turns.{Throughout}
 use Rattle.table.specs.declared.Density.{Density}
 use Rattle.table.specs.declared.Done.{Done}
 use Rattle.table.proofs.Choice.{never}
@@ -21,7 +22,7 @@ use Rattle.curve.specs.Promises.{Sitting, sittingOn, startVerdict, acceptVerdic
 use Rattle.curve.proofs.RampLaws.{ramp-order, ramp-bits}
 use Rattle.curve.proofs.Promises.{start-some, start-granted, start-refused, accept-some, accept-same, accept-granted}
 use Rattle.nudge.specs.Promises.{nudgeVerdict, NudgePromise}
-use Rattle.nudge.specs.Calls.{Call, start, accept, nudge, Step, Turn, Run, Throughout, opens, WholeSitting}
+use Rattle.nudge.specs.Calls.{Call, start, accept, nudge, Step, Turn, Run, opens, WholeSitting}
 use Rattle.nudge.specs.Demand.{InOrder, SittingDemand}
 use Rattle.nudge.proofs.Promises.{nudge-some, nudge-granted, nudge-refused, nudge-length}
 

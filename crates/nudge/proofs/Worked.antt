@@ -7,13 +7,14 @@ use lib.Dec.{lit<}
 use Rattle.table.specs.Sizes.{within}
 use Rattle.table.specs.Order.{notBelowLeft, notAboveRight}
 use Rattle.table.specs.Fill.{tabulated}
+use Rattle.table.specs.Turns.{Throughout}
 use Rattle.table.specs.declared.Density.{Density}
 use Rattle.table.specs.declared.Done.{Done}
 use Rattle.table.specs.declared.Refusal.the-variants.{TableLength, NotNondecreasing, IndexBeyond, OutsideNeighbours}
 use Rattle.curve.specs.Ramp.{ramp}
 use Rattle.curve.specs.Promises.{Sitting, sittingOn}
 use Rattle.nudge.specs.Promises.{NudgePromise}
-use Rattle.nudge.specs.Calls.{Turn, start, nudge, Throughout, WholeSitting}
+use Rattle.nudge.specs.Calls.{Turn, start, nudge, WholeSitting}
 use Rattle.nudge.specs.Demand.{InOrder}
 use Rattle.nudge.proofs.Sitting.{sitting-demand, Bits, run-keeps-bits}
 

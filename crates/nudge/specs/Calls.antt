@@ -4,6 +4,7 @@ use Prim.Native.Nat.{ℕ}
 use mathlib.Core.Path.{_≡_}
 use mathlib.Core.Bool.{Bool, true, false}
 use mathlib.Core.List.{List, [], _∷_}
+use Rattle.table.specs.Turns as turns
 use Rattle.table.specs.declared.Density.{Density}
 use Rattle.table.specs.declared.Done.{Done}
 use Rattle.curve.specs.Promises.{Sitting, StartPromise, AcceptPromise}
@@ -22,20 +23,12 @@ Step s accept r s′ = AcceptPromise s r s′
 Step s (nudge i v) r s′ = NudgePromise s i v r s′
 
 -- one turn: a call, its answer, and the sitting after it
-pub record Turn : Type 0 where
-  pub call : Call
-  pub answer : Done
-  pub after : Sitting
+abbrev pub Turn : Type 0
+Turn = turns.Turn Sitting Call
 
 -- the turns follow one another from s on, each from what the one before it left
 abbrev pub Run : Sitting → List Turn → Type 0
-Run s [] = Unit {0}
-Run s (t ∷ turns) = Step s (t .call) (t .answer) (t .after) × Run (t .after) turns
-
--- P holds of s and of what each turn leaves
-abbrev pub Throughout : (Sitting → Type 0) → Sitting → List Turn → Type 0
-Throughout P s [] = P s
-Throughout P s (t ∷ turns) = P s × Throughout P (t .after) turns
+Run = turns.Run Step
 
 -- the calls that a sitting may begin with
 abbrev pub opens : Call → Bool

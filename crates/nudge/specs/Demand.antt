@@ -5,8 +5,9 @@ use mathlib.Core.List.{List}
 use lib.ListN.{length}
 use Rattle.table.specs.Sizes.{sized}
 use Rattle.table.specs.Order.{Nondecreasing}
+use Rattle.table.specs.Turns.{Throughout}
 use Rattle.curve.specs.Promises.{Sitting}
-use Rattle.nudge.specs.Calls.{Turn, Throughout, WholeSitting}
+use Rattle.nudge.specs.Calls.{Turn, WholeSitting}
 
 -- s holds a nondecreasing table of 1 to 65,536 entries, as many as were lent
 pub record InOrder (lent s : Sitting) : Type 0 where

@@ -8,8 +8,9 @@ use lib.ListN.{getD}
 use lib.Dec.{lit<}
 use Rattle.table.specs.Refusals.{numberOf, Verdict, granted, refused, rung, numberIn}
 use Rattle.table.specs.declared.Refusal.{Refusal}
-use Rattle.table.specs.declared.Refusal.the-variants.{TableLength, NotNondecreasing, IndexBeyond, OutsideNeighbours, AboveLast, OutputLength, ParameterCount, TagLength, WrongSignature, ReservedNotZero, FunctionType, OutsideRange, OutsideUnit}
+use Rattle.table.specs.declared.Refusal.the-variants.{TableLength, NotNondecreasing, IndexBeyond, OutsideNeighbours, AboveLast, OutputLength, ParameterCount, TagLength, WrongSignature, ReservedNotZero, FunctionType, OutsideRange, OutsideUnit, LogFull, NothingToTakeBack, BadLog}
 
+-- by their numbers, from 1 on; none has the number 14, so any may stand in its place
 refusals : List Refusal
 refusals =
     TableLength
@@ -25,6 +26,10 @@ refusals =
     ∷ FunctionType
     ∷ OutsideRange
     ∷ OutsideUnit
+    ∷ TableLength
+    ∷ LogFull
+    ∷ NothingToTakeBack
+    ∷ BadLog
     ∷ []
 
 -- the refusal of a number
@@ -46,6 +51,9 @@ named-number ReservedNotZero = refl
 named-number FunctionType = refl
 named-number OutsideRange = refl
 named-number OutsideUnit = refl
+named-number LogFull = refl
+named-number NothingToTakeBack = refl
+named-number BadLog = refl
 
 -- no two refusals have one number
 pub same-refusal : (a b : Refusal) → numberOf a ≡ numberOf b → a ≡ b
@@ -66,6 +74,9 @@ number-above ReservedNotZero = lit< tt
 number-above FunctionType = lit< tt
 number-above OutsideRange = lit< tt
 number-above OutsideUnit = lit< tt
+number-above LogFull = lit< tt
+number-above NothingToTakeBack = lit< tt
+number-above BadLog = lit< tt
 
 pub same-verdict : (v w : Verdict) → numberIn v ≡ numberIn w → v ≡ w
 same-verdict granted granted e = refl

@@ -1,4 +1,4 @@
--- Document 01's number and value for each case of an answer: a granted one has number 0, and a refused one has 0 in every other place.
+-- The documents' number and value for each case of an answer: a granted one has number 0, and a refused one has 0 in every other place.
 -- Assumes nothing.
 use Prim.Native.Nat.{ℕ}
 use Rattle.table.specs.Refusals.{numberOf}

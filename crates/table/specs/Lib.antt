@@ -7,3 +7,4 @@ pub mod Order
 pub mod Quotient
 pub mod Fill
 pub mod Runs
+pub mod Turns

@@ -1,8 +1,8 @@
--- Document 01's refusals: the number of each, and the ladder of tests by which a call is granted or refused. Assumes nothing.
+-- The documents' refusals: the number of each, and the ladder of tests by which a call is granted or refused. Assumes nothing.
 use Prim.Native.Nat.{ℕ}
 use mathlib.Core.Bool.{Bool, true, false}
 use Rattle.table.specs.declared.Refusal.{Refusal}
-use Rattle.table.specs.declared.Refusal.the-variants.{TableLength, NotNondecreasing, IndexBeyond, OutsideNeighbours, AboveLast, OutputLength, ParameterCount, TagLength, WrongSignature, ReservedNotZero, FunctionType, OutsideRange, OutsideUnit}
+use Rattle.table.specs.declared.Refusal.the-variants.{TableLength, NotNondecreasing, IndexBeyond, OutsideNeighbours, AboveLast, OutputLength, ParameterCount, TagLength, WrongSignature, ReservedNotZero, FunctionType, OutsideRange, OutsideUnit, LogFull, NothingToTakeBack, BadLog}
 
 -- the number of each refusal, row by row; 0 is no refusal's
 abbrev pub numberOf : Refusal → ℕ
@@ -19,6 +19,9 @@ numberOf ReservedNotZero = 10
 numberOf FunctionType = 11
 numberOf OutsideRange = 12
 numberOf OutsideUnit = 13
+numberOf LogFull = 15
+numberOf NothingToTakeBack = 16
+numberOf BadLog = 17
 
 -- what a call's tests come to, before it does anything
 pub data Verdict : Type 0 where
@@ -26,7 +29,7 @@ pub data Verdict : Type 0 where
   refused : Refusal → Verdict
 
 -- a rung of the ladder: a test that must hold, the refusal where it does not, and the rungs after it.
--- So a call is refused by the first test, in document 01's order, that fails.
+-- So a call is refused by the first test, in its document's order, that fails.
 abbrev pub rung : Bool → Refusal → Verdict → Verdict
 rung true why rest = rest
 rung false why rest = refused why

@@ -15,7 +15,7 @@ pub struct Drive(pub u16);
 #[repr(C)]
 pub struct Density(pub u16);
 
-// Why a call is refused: a case for each row of document 01, in its order.
+// Why a call is refused: a case for each row of document 01, and for each that document 02 adds, by its number.
 pub enum Refusal {
     // 1: the table's length is 0 or above 65,536; of a start, below 2 or above; of some calls, only above
     TableLength,
@@ -43,6 +43,12 @@ pub enum Refusal {
     OutsideRange,
     // 13: the input of `lut_interp_linear` is not from 0 to 1
     OutsideUnit,
+    // 15: the log is full
+    LogFull,
+    // 16: no nudge stands that could be taken back
+    NothingToTakeBack,
+    // 17: the log's count is above its places, or on take-back its last record does not go with the table
+    BadLog,
 }
 
 // The answer of a call that only does something.
@@ -63,7 +69,7 @@ pub enum Sought {
     Refused(Refusal),
 }
 
-// Document 01's number of a refusal.
+// The documents' number of a refusal.
 pub fn number(why: Refusal) -> u32
     ensures { λ r. ⌜ r ≡ numberOf why ⌝ }
 {
@@ -81,6 +87,9 @@ pub fn number(why: Refusal) -> u32
         Refusal::FunctionType => 11,
         Refusal::OutsideRange => 12,
         Refusal::OutsideUnit => 13,
+        Refusal::LogFull => 15,
+        Refusal::NothingToTakeBack => 16,
+        Refusal::BadLog => 17,
     }
 }
 
