@@ -3,8 +3,8 @@
 use Prim.Native.Nat.{ℕ}
 use mathlib.Core.Path.{_≡_}
 use mathlib.Core.Bool.{Bool, true, false}
-use mathlib.Core.List.{List, [], _∷_}
-use Rattle.table.specs.Turns as turns
+use mathlib.Core.List.{List, _∷_}
+use Rattle.table.specs.Turns as general
 use Rattle.table.specs.declared.Density.{Density}
 use Rattle.table.specs.declared.Done.{Done}
 use Rattle.curve.specs.Promises.{Sitting, StartPromise, AcceptPromise}
@@ -24,11 +24,11 @@ Step s (nudge i v) r s′ = NudgePromise s i v r s′
 
 -- one turn: a call, its answer, and the sitting after it
 abbrev pub Turn : Type 0
-Turn = turns.Turn Sitting Call
+Turn = general.Turn Sitting Call
 
 -- the turns follow one another from s on, each from what the one before it left
 abbrev pub Run : Sitting → List Turn → Type 0
-Run = turns.Run Step
+Run = general.Run Step
 
 -- the calls that a sitting may begin with
 abbrev pub opens : Call → Bool

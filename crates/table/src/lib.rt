@@ -15,7 +15,8 @@ pub struct Drive(pub u16);
 #[repr(C)]
 pub struct Density(pub u16);
 
-// Why a call is refused: a case for each row of document 01, and for each that document 02 adds, by its number.
+// Why a call is refused: a case for each row of document 01, and for each that a request of document 02 has added, in the
+// order of their numbers.
 pub enum Refusal {
     // 1: the table's length is 0 or above 65,536; of a start, below 2 or above; of some calls, only above
     TableLength,
@@ -45,7 +46,7 @@ pub enum Refusal {
     OutsideUnit,
     // 15: the log is full
     LogFull,
-    // 16: no nudge stands that could be taken back
+    // 16: no nudge stands, so there is nothing to take back
     NothingToTakeBack,
     // 17: the log's count is above its places, or on take-back its last record does not go with the table
     BadLog,
