@@ -1,0 +1,46 @@
+-- A record says what it was made of, and when it goes with a table. Assumes nothing.
+use mathlib.Core.Path.{_≡_}
+use mathlib.Core.Bool.{true, false}
+use mathlib.Core.List.{List}
+use Prim.Native.Nat.{ℕ, _≤_, _<_}
+use native.Mathlib.Omega.{arith}
+use borrow.Author.Tests.{lt-ltb, le-ltb, eq-eqb, ne-eqb, ltb-true}
+use lib.ListN.{length, getD}
+use Rattle.table.specs.Order.{suits}
+use Rattle.table.proofs.Choice.{both-left}
+use Rattle.log.specs.Records.{word, newOf, oldOf, indexOf, goesWith}
+
+module _ (i old new : ℕ) (o : old < 65536) (n : new < 65536) where
+  pub index-word : indexOf (word i old new) ≡ i
+  index-word = omega arith
+
+  pub old-word : oldOf (word i old new) ≡ old
+  old-word = omega arith
+
+  pub new-word : newOf (word i old new) ≡ new
+  new-word = omega arith
+
+-- both entries are 16 bits wide, whatever the number
+pub new-narrow : (w : ℕ) → newOf w < 65536
+new-narrow w = omega arith
+
+pub old-narrow : (w : ℕ) → oldOf w < 65536
+old-narrow w = omega arith
+
+-- The three tests of a record that goes with a table, one after the other.
+module _ (t : List ℕ) (w : ℕ) where
+  pub goes-beyond : length t ≤ indexOf w → goesWith t w ≡ false
+  unfolding goesWith
+  goes-beyond h = simp (le-ltb _ _ h)
+
+  pub goes-other : indexOf w < length t → (getD t (indexOf w) 0 ≡ newOf w → ⊥) → goesWith t w ≡ false
+  unfolding goesWith
+  goes-other h n = simp (lt-ltb _ _ h, ne-eqb _ _ n)
+
+  pub goes-same : indexOf w < length t → getD t (indexOf w) 0 ≡ newOf w → goesWith t w ≡ suits t (indexOf w) (oldOf w)
+  unfolding goesWith
+  goes-same h e = simp (lt-ltb _ _ h, eq-eqb _ _ e)
+
+  pub goes-inside : goesWith t w ≡ true → indexOf w < length t
+  unfolding goesWith
+  goes-inside e = ltb-true _ _ (both-left _ _ e)
