@@ -1,0 +1,68 @@
+-- What each call over a table and its log promises: when it is refused and by which number, and what it leaves of all
+-- three, the table, the log's words and the count. Assumes nothing.
+use Prim.Native.Nat.{ℕ, _+_, _-_}
+use mathlib.Core.Path.{_≡_}
+use mathlib.Core.Bool.{Bool, true}
+use lib.ListN.{length, getD, set}
+use lib.Dec.{leb, ltb}
+use Rattle.table.specs.Choice.{pick, both}
+use Rattle.table.specs.Sizes.{sized}
+use Rattle.table.specs.Order.{nondecreasing, suits}
+use Rattle.table.specs.Refusals.{Verdict, granted, rung, numberIn, ifGranted}
+use Rattle.table.specs.Answers.{numberOfDone}
+use Rattle.table.specs.declared.Density.{Density}
+use Rattle.table.specs.declared.Done.{Done}
+use Rattle.table.specs.declared.Refusal.the-variants.{TableLength, NotNondecreasing, IndexBeyond, OutsideNeighbours, LogFull, NothingToTakeBack, BadLog}
+use Rattle.curve.specs.Ramp.{rampOf}
+use Rattle.curve.specs.Promises.{sittingOn, startVerdict, acceptVerdict}
+use Rattle.log.specs.Records.{places, word, takenBack, goesWith}
+use Rattle.logged.specs.State.{Logged, loggedOn, lastStanding}
+
+-- a call, with what it is given
+pub data Call : Type 0 where
+  start : Call
+  accept : Call
+  nudge : ℕ → Density → Call
+  takeBack : Call
+
+-- A log that a take-back can go by: no more stand than there are places, and the last one, where one stands, goes with
+-- the table.
+abbrev pub soundLog : Logged → Bool
+soundLog s =
+    both (leb (s .count) places)
+    (pick (ltb 0 (s .count)) (goesWith (s .table) (lastStanding s)) true)
+
+-- Start and accept are refused as they are without a log: 1; and 1, 2. A nudge: 1, 17, 3, 2, 4, 15. A take-back: 1, 2,
+-- 17, 16.
+abbrev pub verdict : Call → Logged → Verdict
+verdict start s = startVerdict (sittingOn (s .table))
+verdict accept s = acceptVerdict (sittingOn (s .table))
+verdict (nudge i v) s =
+    rung (sized (length (s .table))) TableLength
+    (rung (leb (s .count) places) BadLog
+    (rung (ltb i (length (s .table))) IndexBeyond
+    (rung (nondecreasing (s .table)) NotNondecreasing
+    (rung (suits (s .table) i (v .0)) OutsideNeighbours
+    (rung (ltb (s .count) places) LogFull
+    granted)))))
+verdict takeBack s =
+    rung (sized (length (s .table))) TableLength
+    (rung (nondecreasing (s .table)) NotNondecreasing
+    (rung (soundLog s) BadLog
+    (rung (ltb 0 (s .count)) NothingToTakeBack
+    granted)))
+
+-- What a granted call leaves. A start makes the straight curve, an accept leaves the table, and both empty the log. A
+-- nudge sets its entry and writes one word, at the count, and one more stands. A take-back sets the last one's entry
+-- back, and one fewer stands. But for that one word no place of the log changes.
+abbrev pub leaves : Call → Logged → Logged
+leaves start s = loggedOn (rampOf (length (s .table))) (s .log) 0
+leaves accept s = loggedOn (s .table) (s .log) 0
+leaves (nudge i v) s =
+    loggedOn (set (s .table) i (v .0)) (set (s .log) (s .count) (word i (getD (s .table) i 0) (v .0))) (s .count + 1)
+leaves takeBack s = loggedOn (takenBack (s .table) (lastStanding s)) (s .log) (s .count - 1)
+
+-- A refused call leaves all as it was.
+pub record LogPromise (call : Call) (s : Logged) (r : Done) (s′ : Logged) : Type 0 where
+  pub number : numberOfDone r ≡ numberIn (verdict call s)
+  pub after : s′ ≡ ifGranted (verdict call s) (leaves call s) s
