@@ -14,6 +14,10 @@ use Rattle.curve.specs.Promises.{Sitting, sittingOn}
 use Rattle.curve.proofs.Promises.{start-one, accept-one}
 use Rattle.nudge.proofs.Promises.{nudge-one}
 use Rattle.least.proofs.Promises.{least-one}
+use Rattle.table.specs.Answers.{numberOfDone}
+use Rattle.logged.specs.State.{Logged}
+use Rattle.logged.specs.Promises.{Call, LogPromise}
+use Rattle.logged.proofs.Promises.{log-one}
 use Rattle.least_row.proofs.Promises.{least-row-one}
 use Rattle.inverse.proofs.Promises.{inverse-one}
 use Rattle.invert.proofs.Promises.{invert-one}
@@ -35,7 +39,7 @@ use Rattle.para_writer.proofs.Promises as para-writer
 use Rattle.plain_answers.specs.Answers.{asDirection}
 use Rattle.brassgroat.specs.declared.curv_tags.Part.{Part}
 use Rattle.brassgroat.specs.Carried.{Carried, PartCarried}
-use Rattle.brassgroat.specs.Contract.{OneAnswer, OneAnswerAndBuffer, first, second, third}
+use Rattle.brassgroat.specs.Contract.{OneAnswer, OneAnswerAndBuffer, OneAnswerAndTwo, OneAnswerAndThree, first, second, third}
 use Rattle.brassgroat.proofs.lookups.bg_lut_interp_linear16.Reads as bg_lut_interp_linear16
 use Rattle.brassgroat.proofs.lookups.bg_lut_interp_linear16_row.Reads as bg_lut_interp_linear16_row
 use Rattle.brassgroat.proofs.lookups.bg_bake.Reads as bg_bake
@@ -43,6 +47,10 @@ use Rattle.brassgroat.proofs.lookups.bg_lut_interp_linear_gamma_impl.Re
 use Rattle.brassgroat.proofs.curves.bg_start.Reads as bg_start
 use Rattle.brassgroat.proofs.curves.bg_accept.Reads as bg_accept
 use Rattle.brassgroat.proofs.curves.bg_nudge.Reads as bg_nudge
+use Rattle.brassgroat.proofs.logs.bg_log_start.Reads as bg_log_start
+use Rattle.brassgroat.proofs.logs.bg_log_accept.Reads as bg_log_accept
+use Rattle.brassgroat.proofs.logs.bg_log_nudge.Reads as bg_log_nudge
+use Rattle.brassgroat.proofs.logs.bg_take_back.Reads as bg_take_back
 use Rattle.brassgroat.proofs.inverses.bg_least_input.Reads as bg_least_input
 use Rattle.brassgroat.proofs.inverses.bg_least_input_row.Reads as bg_least_input_row
 use Rattle.brassgroat.proofs.inverses.bg_lut_inverse_interp16.Reads as bg_lut_inverse_interp16
@@ -110,6 +118,30 @@ bg-accept-one = one-answer (λ κs a l m x y. accept-one x y .0)
 
 pub bg-nudge-one : OneAnswerAndBuffer bg_nudge.Post first
 bg-nudge-one = one-both (λ κs a e f l m x y. let both = nudge-one x y in (both .0, tables (both .1)))
+
+-- Taking nudges back: the answer, and what is left of the table, the log's words and the count.
+log-all : {call : Call} {s a b : Logged} {r q : ℕ} →
+    Carried numberOfDone (λ d. LogPromise call s d a) r → Carried numberOfDone (λ d. LogPromise call s d b) q →
+    (r ≡ q) × (a .table ≡ b .table) × (a .log ≡ b .log) × (a .count ≡ b .count)
+log-all x y =
+    let both = log-one (x .kept) (y .kept) in (
+      x .same ∙ ap numberOfDone (both .0) ∙ sym (y .same),
+      ap (λ (s : Logged). s .table) (both .1),
+      ap (λ (s : Logged). s .log) (both .1),
+      ap (λ (s : Logged). s .count) (both .1),
+    )
+
+pub bg-log-start-one : OneAnswerAndThree bg_log_start.Post first second third
+bg-log-start-one κs a r s e f = log-all
+
+pub bg-log-accept-one : OneAnswerAndTwo bg_log_accept.Post second third
+bg-log-accept-one κs a r s e f x y = let all = log-all x y in (all .0, all .2, all .3)
+
+pub bg-log-nudge-one : OneAnswerAndThree bg_log_nudge.Post first second third
+bg-log-nudge-one κs a r s e f = log-all
+
+pub bg-take-back-one : OneAnswerAndThree bg_take_back.Post first second third
+bg-take-back-one κs a r s e f = log-all
 
 -- From density back to drive.
 pub bg-least-one : OneAnswer bg_least_input.Post

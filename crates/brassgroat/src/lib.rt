@@ -5,6 +5,7 @@ pub mod curves;
 pub mod floats;
 pub mod house_curve;
 pub mod inverses;
+pub mod logs;
 pub mod lookups;
 pub mod para_tags;
 pub mod parametrics;

@@ -16,13 +16,13 @@ use Rattle.curve.specs.Promises.{Sitting, sittingOn, startVerdict, acceptVerdic
 use Rattle.curve.proofs.Promises.{start-granted, start-refused}
 use Rattle.log.specs.Records.{places}
 use Rattle.logged.specs.State.{Logged, loggedOn}
-use Rattle.logged.specs.Promises.{Call, start, accept, verdict, leaves, LogPromise}
+use Rattle.logged.specs.Promises.{Call, start, accept, callVerdict, leaves, LogPromise}
 
 -- What a call whose tests are known has to leave, for the functions' proofs.
-pub refused-so : {call : Call} {s : Logged} {why : Refusal} → verdict call s ≡ refused why → LogPromise call s (Done.Refused why) s
+pub refused-so : {call : Call} {s : Logged} {why : Refusal} → callVerdict call s ≡ refused why → LogPromise call s (Done.Refused why) s
 refused-so e = record { number = simp e; after = simp e }
 
-pub granted-so : {call : Call} {s s′ : Logged} → verdict call s ≡ granted → s′ ≡ leaves call s → LogPromise call s Done.Yes s′
+pub granted-so : {call : Call} {s s′ : Logged} → callVerdict call s ≡ granted → s′ ≡ leaves call s → LogPromise call s Done.Yes s′
 granted-so e q = record { number = simp e; after = simp e q }
 
 pub same-parts : {t u l m : List ℕ} {k n : ℕ} → t ≡ u → l ≡ m → k ≡ n → loggedOn t l k ≡ loggedOn u m n
@@ -65,8 +65,8 @@ module _ {t l : List ℕ} {k : ℕ} where
   pub accept-not : {why : Refusal} → AcceptPromise (sittingOn t) (Done.Refused why) (sittingOn t) → LogPromise accept (loggedOn t l k) (Done.Refused why) (loggedOn t l k)
   accept-not {why} a = refused-so (done-refused (acceptVerdict (sittingOn t)) why (a .number))
 
-pub log-some : (call : Call) (s : Logged) → LogPromise call s (doneBy (verdict call s)) (ifGranted (verdict call s) (leaves call s) s)
-log-some call s = record { number = done-number (verdict call s); after = refl }
+pub log-some : (call : Call) (s : Logged) → LogPromise call s (doneBy (callVerdict call s)) (ifGranted (callVerdict call s) (leaves call s) s)
+log-some call s = record { number = done-number (callVerdict call s); after = refl }
 
 pub log-one : {call : Call} {s s′ s″ : Logged} {r q : Done} → LogPromise call s r s′ → LogPromise call s q s″ → (r ≡ q) × (s′ ≡ s″)
 log-one {r = r} {q = q} a b = (same-done r q (a .number ∙ sym (b .number)), a .after ∙ sym (b .after))

@@ -34,10 +34,10 @@ soundLog s =
 
 -- Start and accept are refused as they are without a log: 1; and 1, 2. A nudge: 1, 17, 3, 2, 4, 15. A take-back: 1, 2,
 -- 17, 16.
-abbrev pub verdict : Call → Logged → Verdict
-verdict start s = startVerdict (sittingOn (s .table))
-verdict accept s = acceptVerdict (sittingOn (s .table))
-verdict (nudge i v) s =
+abbrev pub callVerdict : Call → Logged → Verdict
+callVerdict start s = startVerdict (sittingOn (s .table))
+callVerdict accept s = acceptVerdict (sittingOn (s .table))
+callVerdict (nudge i v) s =
     rung (sized (length (s .table))) TableLength
     (rung (leb (s .count) places) BadLog
     (rung (ltb i (length (s .table))) IndexBeyond
@@ -45,7 +45,7 @@ verdict (nudge i v) s =
     (rung (suits (s .table) i (v .0)) OutsideNeighbours
     (rung (ltb (s .count) places) LogFull
     granted)))))
-verdict takeBack s =
+callVerdict takeBack s =
     rung (sized (length (s .table))) TableLength
     (rung (nondecreasing (s .table)) NotNondecreasing
     (rung (soundLog s) BadLog
@@ -64,5 +64,5 @@ leaves takeBack s = loggedOn (takenBack (s .table) (lastStanding s)) (s .log) (s
 
 -- A refused call leaves all as it was.
 pub record LogPromise (call : Call) (s : Logged) (r : Done) (s′ : Logged) : Type 0 where
-  pub number : numberOfDone r ≡ numberIn (verdict call s)
-  pub after : s′ ≡ ifGranted (verdict call s) (leaves call s) s
+  pub number : numberOfDone r ≡ numberIn (callVerdict call s)
+  pub after : s′ ≡ ifGranted (callVerdict call s) (leaves call s) s

@@ -66,4 +66,4 @@ asCount l = record { refusal = numberOfCounted l; entries = valueOfCounted l }
 
 -- 0.2.0, as include/brassgroat.h and bindings/rust/Cargo.toml have it; face/test compares the three
 abbrev pub version : ℕ
-version = 200
+version = 300

@@ -14,7 +14,7 @@ pub mod inside;
 pub fn version() -> u32
     ensures { λ r. ⌜ r ≡ version ⌝ }
 {
-    200
+    300
 }
 
 // A sample.
