@@ -33,12 +33,14 @@ unfolding allNudged
 nudged-last t [] w = refl
 nudged-last t (v ∷ ws) w = nudged-last (nudged t v) ws w
 
-each-more : (t ws : List ℕ) (w : ℕ) → EachGrantable t ws → Grantable (allNudged t ws) w → EachGrantable t (ws ++ (w ∷ []))
+each-more : (t ws : List ℕ) (w : ℕ) → EachGrantable t ws → Grantable (allNudged t ws) w →
+    EachGrantable t (ws ++ (w ∷ []))
 unfolding allNudged EachGrantable
 each-more t [] w g h = (h, tt)
 each-more t (v ∷ ws) w g h = (g .0, each-more (nudged t v) ws w (g .1) h)
 
-each-less : (t ws : List ℕ) (w : ℕ) → EachGrantable t (ws ++ (w ∷ [])) → EachGrantable t ws × Grantable (allNudged t ws) w
+each-less : (t ws : List ℕ) (w : ℕ) → EachGrantable t (ws ++ (w ∷ [])) →
+    EachGrantable t ws × Grantable (allNudged t ws) w
 unfolding allNudged EachGrantable
 each-less t [] w g = (tt, g .0)
 each-less t (v ∷ ws) w g = let l = each-less (nudged t v) ws w (g .1) in ((g .0, l .0), l .1)

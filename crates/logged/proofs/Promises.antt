@@ -1,72 +1,191 @@
--- The promise of each call is met (`log-some`), and names one answer and one later state (`log-one`). Assumes nothing.
-use mathlib.Core.Path.{_≡_, _∙_, refl, sym, ap, subst}
-use mathlib.Core.List.{List}
-use mathlib.Core.Bool.{true, false}
-use Prim.Native.Nat.{ℕ, _<_}
+-- The promise of each call is met (`log-some`), and names one answer and one later state, refused calls too
+-- (`log-one`). Whatever is lent or asked, a table of any length, a count above the places, any words, any index: there
+-- is one numbered answer (`log-answer`), and a refused call leaves all as it was (`log-refused`). What the calls do
+-- without a log they do with one, and when 15 and 16 are given. Assumes nothing.
+use mathlib.Core.Path.{_≡_, _∙_, refl, sym, ap}
+use mathlib.Core.Logic.{_↔_}
+use mathlib.Core.Bool.{Bool, true, false}
+use Prim.Native.Nat.{ℕ, _-_, _≤_, _<_}
+use native.Mathlib.Nat.{le-antisymm}
 use native.Mathlib.Omega.{arith}
-use borrow.Author.Tests.{lt-ltb, le-ltb, ltb-true, leb-true}
+use borrow.Author.Tests.{lt-ltb, le-leb, ltb-true, ltb-false, leb-true}
+use lib.ListN.{length}
 use lib.Dec.{leb, ltb}
 use Rattle.table.specs.Sizes.{sized}
-use Rattle.table.specs.Refusals.{granted, refused, ifGranted}
+use Rattle.table.specs.Order.{Passed, nondecreasing, suits}
+use Rattle.table.specs.Refusals.{Verdict, granted, refused, rung, andThen, numberOf, numberIn, ifGranted}
+use Rattle.table.specs.Answers.{numberOfDone}
+use Rattle.table.specs.declared.Density.{Density}
 use Rattle.table.specs.declared.Done.{Done}
 use Rattle.table.specs.declared.Refusal.{Refusal}
-use Rattle.table.proofs.Sizes.{within-high}
-use Rattle.table.proofs.Answers.{same-done, doneBy, done-number, done-granted, done-refused}
-use Rattle.curve.specs.Promises.{Sitting, sittingOn, startVerdict, acceptVerdict, StartPromise, AcceptPromise}
-use Rattle.curve.proofs.Promises.{start-granted, start-refused}
+use Rattle.table.specs.declared.Refusal.the-variants.{TableLength, NotNondecreasing, IndexBeyond, OutsideNeighbours, LogFull, NothingToTakeBack, BadLog}
+use Rattle.table.proofs.Refusals.{same-verdict, rung-granted}
+use Rattle.table.proofs.Answers.{same-done, doneBy, done-number, done-is, done-granted, done-refused}
+use Rattle.curve.specs.Promises.{sittingOn, StartPromise, AcceptPromise}
+use Rattle.nudge.specs.Promises.{nudgeVerdict, NudgePromise}
+use Rattle.nudge.proofs.Promises.{Nudgeable}
 use Rattle.log.specs.Records.{places}
-use Rattle.logged.specs.State.{Logged, loggedOn}
-use Rattle.logged.specs.Promises.{Call, start, accept, callVerdict, leaves, LogPromise}
+use Rattle.logged.specs.State.{Logged}
+use Rattle.logged.specs.Promises.{Call, start, accept, nudge, takeBack, soundLog, callVerdict, leaves, LogPromise}
+use Rattle.logged.proofs.Cases.{is-full, none-stands}
 
--- What a call whose tests are known has to leave, for the functions' proofs.
-pub refused-so : {call : Call} {s : Logged} {why : Refusal} → callVerdict call s ≡ refused why → LogPromise call s (Done.Refused why) s
-refused-so e = record { number = simp e; after = simp e }
-
-pub granted-so : {call : Call} {s s′ : Logged} → callVerdict call s ≡ granted → s′ ≡ leaves call s → LogPromise call s Done.Yes s′
-granted-so e q = record { number = simp e; after = simp e q }
-
-pub same-parts : {t u l m : List ℕ} {k n : ℕ} → t ≡ u → l ≡ m → k ≡ n → loggedOn t l k ≡ loggedOn u m n
-same-parts {t} {u} {l} {m} {k} {n} a b c =
-    ap (λ (x : List ℕ). loggedOn x l k) a ∙ ap (λ (x : List ℕ). loggedOn u x k) b ∙ ap (loggedOn u m) c
-
--- a log is full, or there is room in it
-pub is-full : {k : ℕ} → k ≡ places → ltb k places ≡ false
-is-full {k} e = le-ltb k places (omega arith)
-
-pub has-room : {k : ℕ} → leb k places ≡ true → (k ≡ places → ⊥) → ltb k places ≡ true
-has-room {k} h n = lt-ltb k places (omega (arith, leb-true k places h))
-
--- none stands, or one does
-pub none-stands : {k : ℕ} → k ≡ 0 → ltb 0 k ≡ false
-none-stands {k} e = le-ltb 0 k (omega arith)
-
-pub one-stands : {k : ℕ} → (k ≡ 0 → ⊥) → ltb 0 k ≡ true
-one-stands {k} n = lt-ltb 0 k (omega arith)
-
--- an index of a table is 16 bits wide
-pub index-narrow : (n i : ℕ) → sized n ≡ true → ltb i n ≡ true → i < 65536
-index-narrow n i h l = omega (arith, within-high 1 65536 n h, ltb-true i n l)
-
--- Start and accept do to the table what they do without a log.
-module _ {t l : List ℕ} {k : ℕ} where
-  pub start-so : {t′ : List ℕ} → StartPromise (sittingOn t) Done.Yes (sittingOn t′) → LogPromise start (loggedOn t l k) Done.Yes (loggedOn t′ l 0)
-  start-so a =
-      let g = start-granted a in
-      granted-so (simp (g .0)) (same-parts (g .1) refl refl)
-
-  pub start-not : {t′ : List ℕ} {why : Refusal} → StartPromise (sittingOn t) (Done.Refused why) (sittingOn t′) → LogPromise start (loggedOn t l k) (Done.Refused why) (loggedOn t′ l k)
-  start-not {why = why} a =
-      subst (λ (s : Sitting). LogPromise start (loggedOn t l k) (Done.Refused why) (loggedOn (s .table) l k)) (sym (start-refused a))
-      (refused-so (done-refused (startVerdict (sittingOn t)) why (a .number)))
-
-  pub accept-so : AcceptPromise (sittingOn t) Done.Yes (sittingOn t) → LogPromise accept (loggedOn t l k) Done.Yes (loggedOn t l 0)
-  accept-so a = granted-so (done-granted (acceptVerdict (sittingOn t)) (a .number)) refl
-
-  pub accept-not : {why : Refusal} → AcceptPromise (sittingOn t) (Done.Refused why) (sittingOn t) → LogPromise accept (loggedOn t l k) (Done.Refused why) (loggedOn t l k)
-  accept-not {why} a = refused-so (done-refused (acceptVerdict (sittingOn t)) why (a .number))
-
-pub log-some : (call : Call) (s : Logged) → LogPromise call s (doneBy (callVerdict call s)) (ifGranted (callVerdict call s) (leaves call s) s)
+pub log-some : (call : Call) (s : Logged) →
+    LogPromise call s (doneBy (callVerdict call s)) (ifGranted (callVerdict call s) (leaves call s) s)
 log-some call s = record { number = done-number (callVerdict call s); after = refl }
 
-pub log-one : {call : Call} {s s′ s″ : Logged} {r q : Done} → LogPromise call s r s′ → LogPromise call s q s″ → (r ≡ q) × (s′ ≡ s″)
-log-one {r = r} {q = q} a b = (same-done r q (a .number ∙ sym (b .number)), a .after ∙ sym (b .after))
+module _ {call : Call} {s : Logged} where
+  pub log-one : {r q : Done} {s′ s″ : Logged} → LogPromise call s r s′ → LogPromise call s q s″ → (r ≡ q) × (s′ ≡ s″)
+  log-one {r} {q} a b = (same-done r q (a .number ∙ sym (b .number)), a .after ∙ sym (b .after))
+
+  pub log-answer : {r : Done} {s′ : Logged} → LogPromise call s r s′ → r ≡ doneBy (callVerdict call s)
+  log-answer a = done-is (callVerdict call s) (a .number)
+
+  pub log-granted : {s′ : Logged} → LogPromise call s Done.Yes s′ →
+      (callVerdict call s ≡ granted) × (s′ ≡ leaves call s)
+  log-granted a = let w = done-granted (callVerdict call s) (a .number) in (w, a .after ∙ simp w)
+
+  pub log-refused : {why : Refusal} {s′ : Logged} → LogPromise call s (Done.Refused why) s′ → s′ ≡ s
+  log-refused {why} a = a .after ∙ simp (done-refused (callVerdict call s) why (a .number))
+
+-- Ladders: a rung that is not the one that refused holds,
+rung-holds : (test : Bool) (why : Refusal) (rest : Verdict) (w : Refusal) →
+    rung test why rest ≡ refused w → (numberOf why ≡ numberOf w → ⊥) → (test ≡ true) × (rest ≡ refused w)
+rung-holds true why rest w e n = (refl, e)
+rung-holds false why rest w e n = absurd (n (ap numberIn e))
+
+-- the last one that can have refused does not,
+rung-fails : (test : Bool) (why w : Refusal) → rung test why granted ≡ refused w → test ≡ false
+rung-fails true why w e = let z : _≡_ {A = ℕ} 0 1 = cc in absurd (omega arith)
+rung-fails false why w e = refl
+
+-- and one ladder before another is one ladder.
+joined : (test : Bool) (why : Refusal) (rest last : Verdict) →
+    rung test why (andThen rest last) ≡ andThen (rung test why rest) last
+joined true why rest last = refl
+joined false why rest last = refl
+
+-- What the calls do without a log they do with one. Start and accept always,
+pub start-same : {s s′ : Logged} {r : Done} → LogPromise start s r s′ →
+    StartPromise (sittingOn (s .table)) r (sittingOn (s′ .table))
+start-same {s} a =
+    record { number = a .number; table = ap (λ (q : Logged). q .table) (a .after) ∙ part (callVerdict start s) }
+  where
+    part : (w : Verdict) → (ifGranted w (leaves start s) s) .table ≡ ifGranted w (leaves start s .table) (s .table)
+    part granted = refl
+    part (refused why) = refl
+
+pub accept-same : {s s′ : Logged} {r : Done} → LogPromise accept s r s′ →
+    AcceptPromise (sittingOn (s .table)) r (sittingOn (s′ .table))
+accept-same {s} a =
+    record { number = a .number; table = ap (λ (q : Logged). q .table) (a .after) ∙ part (callVerdict accept s) }
+  where
+    part : (w : Verdict) → (ifGranted w (leaves accept s) s) .table ≡ s .table
+    part granted = refl
+    part (refused why) = refl
+
+module _ (s : Logged) (i : ℕ) (v : Density) where
+  -- a nudge wherever the count is not above the places: its tests are those without a log, and whether there is room
+  -- comes last.
+  pub nudge-ladder : s .count ≤ places →
+      callVerdict (nudge i v) s ≡
+      andThen (nudgeVerdict (sittingOn (s .table)) i (v .0)) (rung (ltb (s .count) places) LogFull granted)
+  nudge-ladder h =
+      let last = rung (ltb (s .count) places) LogFull granted in
+      let fits = rung (suits (s .table) i (v .0)) OutsideNeighbours granted in
+      let order = rung (nondecreasing (s .table)) NotNondecreasing fits in
+      let index = rung (ltb i (length (s .table))) IndexBeyond order in
+      simp (le-leb _ _ h)
+      (ap (λ (w : Verdict). rung (sized (length (s .table))) TableLength w)
+      (ap (λ (w : Verdict). rung (ltb i (length (s .table))) IndexBeyond w)
+      (ap (λ (w : Verdict). rung (nondecreasing (s .table)) NotNondecreasing w)
+      (joined (suits (s .table) i (v .0)) OutsideNeighbours granted last)
+      ∙ joined (nondecreasing (s .table)) NotNondecreasing fits last)
+      ∙ joined (ltb i (length (s .table))) IndexBeyond order last)
+      ∙ joined (sized (length (s .table))) TableLength index last)
+
+  -- So with room it is the nudge without a log.
+  pub nudge-same : {r : Done} {s′ : Logged} → s .count < places → LogPromise (nudge i v) s r s′ →
+      NudgePromise (sittingOn (s .table)) i v r (sittingOn (s′ .table))
+  nudge-same h a =
+      let w = nudgeVerdict (sittingOn (s .table)) i (v .0) in
+      let e : callVerdict (nudge i v) s ≡ w = simp (le-leb (s .count) places (omega arith), lt-ltb _ _ h) in
+      record {
+        number = a .number ∙ ap numberIn e;
+        table =
+            ap (λ (q : Logged). q .table) (a .after)
+            ∙ ap (λ (w : Verdict). (ifGranted w (leaves (nudge i v) s) s) .table) e
+            ∙ part w;
+      }
+    where
+      part : (w : Verdict) →
+          (ifGranted w (leaves (nudge i v) s) s) .table ≡ ifGranted w (leaves (nudge i v) s .table) (s .table)
+      part granted = refl
+      part (refused why) = refl
+
+  -- 15 is given exactly where the nudge could be granted without a log, and as many stand as there are places.
+  pub fifteen-exactly : {r : Done} {s′ : Logged} → LogPromise (nudge i v) s r s′ →
+      (numberOfDone r ≡ 15) ↔ (Nudgeable (s .table) i (v .0) × (s .count ≡ places))
+  fifteen-exactly {r} a = (given, full)
+    where
+      given : numberOfDone r ≡ 15 → Nudgeable (s .table) i (v .0) × (s .count ≡ places)
+      given e =
+          let w = same-verdict (callVerdict (nudge i v) s) (refused LogFull) (sym (a .number) ∙ e) in
+          let one = rung-holds (sized (length (s .table))) TableLength _ LogFull w (λ q. omega arith) in
+          let few = rung-holds (leb (s .count) places) BadLog _ LogFull (one .1) (λ q. omega arith) in
+          let three = rung-holds (ltb i (length (s .table))) IndexBeyond _ LogFull (few .1) (λ q. omega arith) in
+          let two = rung-holds (nondecreasing (s .table)) NotNondecreasing _ LogFull (three .1) (λ q. omega arith) in
+          let four = rung-holds (suits (s .table) i (v .0)) OutsideNeighbours _ LogFull (two .1) (λ q. omega arith) in
+          let room = rung-fails (ltb (s .count) places) LogFull LogFull (four .1) in (
+            record {
+              size = one .0;
+              index = ltb-true i (length (s .table)) (three .0);
+              order = two .0;
+              fitting = four .0;
+            },
+            le-antisymm (leb-true (s .count) places (few .0)) (ltb-false (s .count) places room),
+          )
+
+      full : Nudgeable (s .table) i (v .0) × (s .count ≡ places) → numberOfDone r ≡ 15
+      full f =
+          let n = f .0 in
+          let few = le-leb (s .count) places (omega (arith, f .1)) in
+          a .number ∙ simp (n .size, few, lt-ltb _ _ (n .index), n .order, n .fitting, is-full (f .1))
+
+-- What a granted nudge and a granted take-back have found.
+pub nudge-found : (s : Logged) (i : ℕ) (v : Density) → callVerdict (nudge i v) s ≡ granted →
+    Nudgeable (s .table) i (v .0) × (s .count < places)
+nudge-found s i v g =
+    let one = rung-granted (sized (length (s .table))) TableLength _ g in
+    let few = rung-granted (leb (s .count) places) BadLog _ (one .1) in
+    let three = rung-granted (ltb i (length (s .table))) IndexBeyond _ (few .1) in
+    let two = rung-granted (nondecreasing (s .table)) NotNondecreasing _ (three .1) in
+    let four = rung-granted (suits (s .table) i (v .0)) OutsideNeighbours _ (two .1) in (
+      record { size = one .0; index = ltb-true i (length (s .table)) (three .0); order = two .0; fitting = four .0 },
+      ltb-true (s .count) places (rung-granted (ltb (s .count) places) LogFull granted (four .1) .0),
+    )
+
+pub back-some : (s : Logged) → callVerdict takeBack s ≡ granted → 0 < s .count
+back-some s g =
+    let one = rung-granted (sized (length (s .table))) TableLength _ g in
+    let two = rung-granted (nondecreasing (s .table)) NotNondecreasing _ (one .1) in
+    let sound = rung-granted (soundLog s) BadLog _ (two .1) in
+    ltb-true 0 (s .count) (rung-granted (ltb 0 (s .count)) NothingToTakeBack granted (sound .1) .0)
+
+-- 16 is given exactly where the table may be worked on, and none stands.
+pub sixteen-exactly : {s s′ : Logged} {r : Done} → LogPromise takeBack s r s′ →
+    (numberOfDone r ≡ 16) ↔ (Passed (s .table) × (s .count ≡ 0))
+sixteen-exactly {s} {r = r} a = (given, none)
+  where
+    given : numberOfDone r ≡ 16 → Passed (s .table) × (s .count ≡ 0)
+    given e =
+        let w = same-verdict (callVerdict takeBack s) (refused NothingToTakeBack) (sym (a .number) ∙ e) in
+        let one = rung-holds (sized (length (s .table))) TableLength _ NothingToTakeBack w (λ q. omega arith) in
+        let two =
+        rung-holds (nondecreasing (s .table)) NotNondecreasing _ NothingToTakeBack (one .1) (λ q. omega arith) in
+        let sound = rung-holds (soundLog s) BadLog _ NothingToTakeBack (two .1) (λ q. omega arith) in
+        let f = ltb-false 0 (s .count) (rung-fails (ltb 0 (s .count)) NothingToTakeBack NothingToTakeBack (sound .1)) in
+        (record { size = one .0; order = two .0 }, omega arith)
+
+    none : Passed (s .table) × (s .count ≡ 0) → numberOfDone r ≡ 16
+    none f =
+        a .number ∙ simp (f .0 .size, f .0 .order, le-leb (s .count) places (omega (arith, f .1)), none-stands (f .1))

@@ -2,7 +2,7 @@
 use mathlib.Core.Path.{_≡_}
 use borrow.Author.Needs.{needs}
 use Rattle.table.specs.declared.Done.{Done}
-use Rattle.logged.proofs.Promises.{accept-so, accept-not}
+use Rattle.logged.proofs.Cases.{accept-so, accept-not}
 use Rattle.logged.proofs.log_accept.Statement.{statement}
 use Rattle.logged.proofs.log_accept.Tie as tie
 

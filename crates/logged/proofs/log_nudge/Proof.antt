@@ -11,7 +11,7 @@ use Rattle.table.specs.Sizes.{sized}
 use Rattle.table.specs.Order.{nondecreasing}
 use Rattle.table.proofs.Choice.{fails, holds}
 use Rattle.log.specs.Records.{places}
-use Rattle.logged.proofs.Promises.{refused-so, granted-so, is-full, has-room, index-narrow}
+use Rattle.logged.proofs.Cases.{refused-so, granted-so, is-full, has-room, index-narrow}
 use Rattle.logged.proofs.log_nudge.Statement.{statement}
 use Rattle.logged.proofs.log_nudge.Tie as tie
 
@@ -26,8 +26,12 @@ passed : (c : tie.Else4) →
     × (ltb (a .i) (length (now (a .table))) ≡ true)
     × (nondecreasing (now (a .table)) ≡ true)
 passed c =
-    let e = c .before .before .before in
-    (size-ok (e .before .before .before), le-leb _ _ (e .before .if2 .left), lt-ltb _ _ (e .if3 .left), holds (c .before .in-order .ensures) (c .if4 .left))
+    let e = c .before .before .before in (
+      size-ok (e .before .before .before),
+      le-leb _ _ (e .before .if2 .left),
+      lt-ltb _ _ (e .if3 .left),
+      holds (c .before .in-order .ensures) (c .if4 .left),
+    )
 
 returns : tie.Need-returns
 returns c = refused-so (simp (fails (c .before .sized .ensures) (c .if1 .taken)))
@@ -44,7 +48,8 @@ returns-4 : tie.Need-returns-4
 returns-4 c =
     let e = c .before .before .before in
     let f = fails (c .before .in-order .ensures) (c .if4 .taken) in
-    refused-so (simp (size-ok (e .before .before .before), le-leb _ _ (e .before .if2 .left), lt-ltb _ _ (e .if3 .left), f))
+    refused-so
+    (simp (size-ok (e .before .before .before), le-leb _ _ (e .before .if2 .left), lt-ltb _ _ (e .if3 .left), f))
 
 returns-5 : tie.Need-returns-5
 returns-5 c =

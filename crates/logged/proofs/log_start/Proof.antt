@@ -2,7 +2,7 @@
 use mathlib.Core.Path.{_≡_}
 use borrow.Author.Needs.{needs}
 use Rattle.table.specs.declared.Done.{Done}
-use Rattle.logged.proofs.Promises.{start-so, start-not}
+use Rattle.logged.proofs.Cases.{start-so, start-not}
 use Rattle.logged.proofs.log_start.Statement.{statement}
 use Rattle.logged.proofs.log_start.Tie as tie
 

@@ -10,7 +10,7 @@ use Rattle.table.specs.Sizes.{sized}
 use Rattle.table.specs.Order.{nondecreasing}
 use Rattle.table.proofs.Choice.{fails, holds}
 use Rattle.log.proofs.Records.{goes-inside}
-use Rattle.logged.proofs.Promises.{refused-so, granted-so, none-stands, one-stands, index-narrow}
+use Rattle.logged.proofs.Cases.{refused-so, granted-so, none-stands, one-stands, index-narrow}
 use Rattle.logged.proofs.take_back.Statement.{statement}
 use Rattle.logged.proofs.take_back.Tie as tie
 

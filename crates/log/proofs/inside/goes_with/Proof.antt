@@ -1,10 +1,6 @@
 -- `goes_with` makes the three tests in their order. Assumes nothing.
-use mathlib.Core.Path.{_≡_, _∙_, sym}
-use Prim.Native.Nat.{_<_}
+use mathlib.Core.Path.{_∙_, sym}
 use borrow.Author.Needs.{needs}
-use denote.Ref.{now}
-use lib.ListN.{length}
-use Rattle.log.specs.Records.{indexOf}
 use Rattle.log.proofs.Records.{goes-beyond, goes-other, goes-same}
 use Rattle.log.proofs.inside.goes_with.Statement.{statement}
 use Rattle.log.proofs.inside.goes_with.Tie as tie
