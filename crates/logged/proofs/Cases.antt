@@ -16,7 +16,7 @@ use Rattle.curve.specs.Promises.{Sitting, sittingOn, startVerdict, acceptVerdic
 use Rattle.curve.proofs.Promises.{start-granted, start-refused}
 use Rattle.log.specs.Records.{places}
 use Rattle.logged.specs.State.{Logged, loggedOn}
-use Rattle.logged.specs.Promises.{Call, start, accept, callVerdict, leaves, LogPromise}
+use Rattle.logged.specs.Promises.{Call, start, accept, callVerdict, leaves, countAfter, LogPromise}
 
 pub refused-so : {call : Call} {s : Logged} {why : Refusal} → callVerdict call s ≡ refused why →
     LogPromise call s (Done.Refused why) s
@@ -48,25 +48,19 @@ one-stands {k} n = lt-ltb 0 k (omega arith)
 pub index-narrow : (n i : ℕ) → sized n ≡ true → ltb i n ≡ true → i < 65536
 index-narrow n i h l = omega (arith, within-high 1 65536 n h, ltb-true i n l)
 
--- Start and accept do to the table what they do without a log.
+-- Start and accept do to the table what they do without a log, and a granted one empties the log.
 module _ {t l : List ℕ} {k : ℕ} where
-  pub start-so : {t′ : List ℕ} → StartPromise (sittingOn t) Done.Yes (sittingOn t′) →
-      LogPromise start (loggedOn t l k) Done.Yes (loggedOn t′ l 0)
-  start-so a =
+  pub start-so : {t′ : List ℕ} (r : Done) → StartPromise (sittingOn t) r (sittingOn t′) →
+      LogPromise start (loggedOn t l k) r (loggedOn t′ l (countAfter r k))
+  start-so Done.Yes a =
       let g = start-granted a in
       granted-so (simp (g .0)) (same-parts (g .1) refl refl)
-
-  pub start-not : {t′ : List ℕ} {why : Refusal} → StartPromise (sittingOn t) (Done.Refused why) (sittingOn t′) →
-      LogPromise start (loggedOn t l k) (Done.Refused why) (loggedOn t′ l k)
-  start-not {why = why} a =
+  start-so (Done.Refused why) a =
       subst (λ (s : Sitting). LogPromise start (loggedOn t l k) (Done.Refused why) (loggedOn (s .table) l k))
       (sym (start-refused a))
       (refused-so (done-refused (startVerdict (sittingOn t)) why (a .number)))
 
-  pub accept-so : AcceptPromise (sittingOn t) Done.Yes (sittingOn t) →
-      LogPromise accept (loggedOn t l k) Done.Yes (loggedOn t l 0)
-  accept-so a = granted-so (done-granted (acceptVerdict (sittingOn t)) (a .number)) refl
-
-  pub accept-not : {why : Refusal} → AcceptPromise (sittingOn t) (Done.Refused why) (sittingOn t) →
-      LogPromise accept (loggedOn t l k) (Done.Refused why) (loggedOn t l k)
-  accept-not {why} a = refused-so (done-refused (acceptVerdict (sittingOn t)) why (a .number))
+  pub accept-so : (r : Done) → AcceptPromise (sittingOn t) r (sittingOn t) →
+      LogPromise accept (loggedOn t l k) r (loggedOn t l (countAfter r k))
+  accept-so Done.Yes a = granted-so (done-granted (acceptVerdict (sittingOn t)) (a .number)) refl
+  accept-so (Done.Refused why) a = refused-so (done-refused (acceptVerdict (sittingOn t)) why (a .number))

@@ -66,3 +66,8 @@ leaves takeBack s = loggedOn (takenBack (s .table) (lastStanding s)) (s .log) (s
 pub record LogPromise (call : Call) (s : Logged) (r : Done) (s′ : Logged) : Type 0 where
   pub number : numberOfDone r ≡ numberIn (callVerdict call s)
   pub after : s′ ≡ ifGranted (callVerdict call s) (leaves call s) s
+
+-- how many stand after a start or an accept that answered so, of k before it: what its inner function ensures
+abbrev pub countAfter : Done → ℕ → ℕ
+countAfter Done.Yes k = 0
+countAfter (Done.Refused why) k = k

@@ -12,15 +12,15 @@ use table::in_order;
 use table::inside::suits;
 use table::inside::wide;
 use table::sized;
+ghost use mathlib.Core.Path.{_≡_};
 ghost use Rattle.logged.specs.State.{loggedOn};
-ghost use Rattle.logged.specs.Promises.{start, accept, nudge, takeBack, LogPromise};
+ghost use Rattle.logged.specs.Promises.{start, accept, nudge, takeBack, countAfter, LogPromise};
 
-// Makes the lent table the straight curve, and empties the log.
-pub fn log_start(table: &mut [u16], log: &mut [u64; PLACES], count: &mut usize) -> Done
-    ensures { λ r. ⌜ LogPromise start (loggedOn (now (table .entry)) (now (log .entry)) (now (count .entry))) r
-        (loggedOn (now (table .exit)) (now (log .exit)) (now (count .exit))) ⌝ }
+// Empties the log where the call was granted.
+fn emptied(answer: Done, count: &mut usize) -> Done
+    ensures { λ r. ⌜ (r ≡ answer) × (now (count .exit) ≡ countAfter answer (now (count .entry))) ⌝ }
 {
-    match curve::start(table) {
+    match answer {
         Done::Yes => {
             *count = 0;
             Done::Yes
@@ -29,18 +29,20 @@ pub fn log_start(table: &mut [u16], log: &mut [u64; PLACES], count: &mut usize) 
     }
 }
 
+// Makes the lent table the straight curve, and empties the log.
+pub fn log_start(table: &mut [u16], log: &mut [u64; PLACES], count: &mut usize) -> Done
+    ensures { λ r. ⌜ LogPromise start (loggedOn (now (table .entry)) (now (log .entry)) (now (count .entry))) r
+        (loggedOn (now (table .exit)) (now (log .exit)) (now (count .exit))) ⌝ }
+{
+    emptied(curve::start(table), count)
+}
+
 // Accepts the table, and empties the log.
 pub fn log_accept(table: &[u16], log: &mut [u64; PLACES], count: &mut usize) -> Done
     ensures { λ r. ⌜ LogPromise accept (loggedOn (now (table .entry)) (now (log .entry)) (now (count .entry))) r
         (loggedOn (now (table .entry)) (now (log .exit)) (now (count .exit))) ⌝ }
 {
-    match curve::accept(table) {
-        Done::Yes => {
-            *count = 0;
-            Done::Yes
-        }
-        Done::Refused(why) => Done::Refused(why),
-    }
+    emptied(curve::accept(table), count)
 }
 
 // Sets entry i to v, where v fits between the entries beside it, and logs what it was and is.
