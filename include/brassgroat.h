@@ -6,13 +6,14 @@
  *
  * What holds for every call:
  *
- * - It takes any input at all. It answers, or it refuses with one of the thirteen numbers of `enum bg_refusal`. A refused
- *   answer has 0 in every other place, and a refused call has changed no buffer. Where several refusals apply, the one that
- *   is listed first at the call is given.
- * - A buffer is a pointer and a count of its ELEMENTS, not bytes. The pointer must be aligned for its type and good for that
- *   many elements; it may be null only where the count is 0. An output buffer must not overlap another buffer of the same
- *   call; buffers that are only read may overlap each other. This much C's caller must see to, and the environment of
- *   floats: nothing else can go wrong.
+ * - It takes any input at all. It answers, or it refuses with one of the sixteen numbers of `enum bg_refusal`. A
+ *   refused answer has 0 in every other place, and a refused call has changed no buffer. Where several refusals apply,
+ *   the one that is listed first at the call is given.
+ * - A buffer is a pointer and a count of its ELEMENTS, not bytes. The pointer must be aligned for its type and good for
+ *   that many elements; it may be null only where the count is 0. A log always has BG_LOG_PLACES records, and no count
+ *   of its elements beside it. An output buffer must not overlap another buffer of the same call; buffers that are only
+ *   read may overlap each other. This much C's caller must see to, and the environment of floats: nothing else can go
+ *   wrong.
  * - It keeps no state, allocates nothing, and writes to its output buffers alone. Threads may call it at will, as long as no buffer that
  *   one call writes is used by another.
  * - A NaN among the answers may have any NaN's bits.
@@ -43,9 +44,9 @@ extern "C" {
  * The version of this header: 10,000 times its first number, 100 times its second, and its third. An archive of another
  * version may have other structs, so a program asks first whether bg_version() is BG_VERSION.
  */
-#define BG_VERSION 200
+#define BG_VERSION 300
 
-/* Why a call is refused; 0 is no refusal. Later versions may have further numbers. */
+/* Why a call is refused; 0 is no refusal. Later versions may have further numbers; 14 is given by no call yet. */
 enum bg_refusal {
     BG_DONE = 0,
     BG_TABLE_LENGTH = 1,        /* the table's length is 0 or above 65,536 (where a call says so: only above; below 2 or above) */
@@ -60,7 +61,10 @@ enum bg_refusal {
     BG_RESERVED_NOT_ZERO = 10,  /* a reserved byte of the tag is not zero */
     BG_FUNCTION_TYPE = 11,      /* the function type is above 4 */
     BG_OUTSIDE_RANGE = 12,      /* `inputs`, `depth`, or the length of an inverted or a passthrough table is outside its range */
-    BG_OUTSIDE_UNIT = 13        /* the input of bg_lut_interp_linear is a NaN, below 0 or above 1 */
+    BG_OUTSIDE_UNIT = 13,       /* the input of bg_lut_interp_linear is a NaN, below 0 or above 1 */
+    BG_LOG_FULL = 15,           /* BG_LOG_PLACES nudges stand in the log */
+    BG_NOTHING_TO_TAKE_BACK = 16, /* no nudge stands in the log */
+    BG_BAD_LOG = 17             /* the count is above BG_LOG_PLACES, or the last record does not go with the table */
 };
 
 /* A position, and a sample. */
@@ -84,6 +88,25 @@ typedef struct { uint32_t refusal; bg_curve curve; } bg_parametric;
 /* The raw signed 16.16 numbers of a para tag, in its order; those that its type does not use are 0. */
 typedef struct { int32_t g, a, b, c, d, e, f; } bg_raw;
 typedef struct { uint32_t refusal; size_t count; bg_raw numbers; } bg_para;
+
+/* How many nudges a log holds. */
+#define BG_LOG_PLACES 63
+
+/* The library reads and writes a record as one word of 64 bits, so it is aligned as one. */
+#ifdef __cplusplus
+#define BG_ALIGNED_AS_WORD alignas(8)
+#else
+#define BG_ALIGNED_AS_WORD _Alignas(8)
+#endif
+
+/*
+ * A nudge in a log: the entry at `index` was `old_entry`, and was set to `new_entry`. `channel` is 0 for now. As a word
+ * it is index * 2^32 + old_entry * 2^16 + new_entry.
+ */
+typedef struct {
+    BG_ALIGNED_AS_WORD uint16_t new_entry;
+    uint16_t old_entry, index, channel;
+} bg_record;
 
 /* The archive's own version, as BG_VERSION is the header's. Never refused. */
 uint32_t bg_version(void);
@@ -123,6 +146,47 @@ uint32_t bg_accept(const uint16_t *table, size_t table_len);
 
 /* Sets one entry, where the density fits between its neighbours, and changes no other. Refused: 1; 3; 2; 4. */
 uint32_t bg_nudge(uint16_t *table, size_t table_len, size_t index, bg_density density);
+
+/* ---- Taking nudges back (crates log and logged) ---- */
+
+/*
+ * Beside the table the caller lends a log: BG_LOG_PLACES records, and `count`, how many nudges stand. The first `count`
+ * records are those nudges, the oldest first; the records past them are no part of the log.
+ *
+ * - `log` must be good for BG_LOG_PLACES records and `count` for one number in every call, refused ones as well. Table,
+ *   log and count must not overlap each other.
+ * - A granted start or accept empties the log, whatever it and the count held: before them a fresh log needs no
+ *   clearing.
+ * - A refused call changes neither table nor log nor count. A granted nudge writes one record, the one at the count;
+ *   the other calls write no record.
+ * - As long as only these four calls change table, log and count, from a granted start or accept on: the table is the
+ *   starting one with the standing nudges done in order, so that taking all of them back gives the starting table; the
+ *   table is nondecreasing; and no call is refused with 17. The starting table is what the last granted start or accept
+ *   left.
+ */
+
+/* As bg_start, and empties the log. Refused: 1 where table_len is below 2 or above 65,536. */
+uint32_t bg_log_start(uint16_t *table, size_t table_len, bg_record *log, size_t *count);
+
+/* As bg_accept, and empties the log. Refused: 1; 2. */
+uint32_t bg_log_accept(const uint16_t *table, size_t table_len, bg_record *log, size_t *count);
+
+/*
+ * Sets one entry as bg_nudge does, and logs what it was and is. A nudge to the entry's own number is granted and logged
+ * too. Refused: 1; 17 where the count is above BG_LOG_PLACES (no record is looked at); 3; 2; 4; 15 where the count is
+ * BG_LOG_PLACES.
+ */
+uint32_t bg_log_nudge(uint16_t *table, size_t table_len, bg_record *log, size_t *count, size_t index,
+                      bg_density density);
+
+/*
+ * Undoes the last nudge that stands: its entry is the old one again, and its place in the log is free. Refused: 1; 2;
+ * 17 where the count is above BG_LOG_PLACES, or where one or more stand and the last record does not go with the table;
+ * 16 where none stands. A record goes with the table if its index is below table_len and its channel is 0, its new
+ * entry is the table's entry there, and its old entry is neither below the entry to the left nor above the one to the
+ * right, as far as there are such.
+ */
+uint32_t bg_take_back(uint16_t *table, size_t table_len, bg_record *log, size_t *count);
 
 /* ---- From density back to drive (crates least, least_row, inverse and invert) ---- */
 
