@@ -92,6 +92,19 @@ void settle(void)
         memcpy(lents[i].held, lents[i].at, lents[i].bytes);
 }
 
+void should_be(const void *at, const void *these, size_t bytes)
+{
+    uintptr_t from = (uintptr_t)at;
+    for (size_t i = 0; i < lent_count; i++) {
+        uintptr_t begins = (uintptr_t)lents[i].at;
+        if (from >= begins && from + bytes <= begins + lents[i].bytes) {
+            memcpy(lents[i].held + (from - begins), these, bytes);
+            return;
+        }
+    }
+    stop("no buffer is lent there");
+}
+
 bool kept_but(const void *out)
 {
     for (size_t i = 0; i < lent_count; i++) {
@@ -162,6 +175,7 @@ static const struct {
 } subjects[] = {
     {"looking up", lookups, false},
     {"working on a curve", curves, false},
+    {"taking nudges back", logs, false},
     {"from density back to drive", inverses, false},
     {"moxcms's own inverse", ported_inverses, true},
     {"floats", floats, true},

@@ -26,7 +26,10 @@ void *lend_copy(const void *from, size_t count, size_t size);
 /* Takes what every lent buffer holds now for what it should hold. */
 void settle(void);
 
-/* Whether every lent buffer but `out` holds what it held, and every guard word stands. */
+/* Says, after settling, that a call should leave these bytes at a place in a lent buffer. */
+void should_be(const void *at, const void *these, size_t bytes);
+
+/* Whether every lent buffer but `out` holds what it should hold, and every guard word stands. */
 bool kept_but(const void *out);
 
 /* Gives all lent buffers back. */
@@ -61,6 +64,7 @@ void curves(void);
 void floats(void);
 void house_curve(void);
 void inverses(void);
+void logs(void);
 void lookups(void);
 void para_curves(void);
 void para_tags(void);
