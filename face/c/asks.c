@@ -12,10 +12,10 @@
 #include <unistd.h>
 
 /* PAGE has whole pages of any size that a machine, or the one below an emulator, may have. */
-enum { PAGE = 65536, GUARD = 64, SHOWN = 44 };
+enum { PAGE = 65536, GUARD = 64, SHOWN = 64 };
 
 static const size_t room_bytes[PLACES] = {
-    [FIRST] = PAGE, [SECOND] = PAGE, [OUT] = PAGE,
+    [FIRST] = PAGE, [SECOND] = PAGE, [OUT] = PAGE, [LOG] = PAGE, [COUNT] = PAGE,
     [LONG_FIRST] = 2 * LONGEST + PAGE, [LONG_SECOND] = 2 * LONGEST + PAGE,
     [LONG_FLOATS] = 4 * LONGEST + PAGE, [LONG_OUT] = 4 * LONGEST + PAGE,
 };
@@ -23,8 +23,10 @@ static struct {
     unsigned char *write, *read;
 } rooms[PLACES];
 
-/* What the reference writes. */
+/* What the reference writes: an output or a table, and of a log its records and its count. */
 static void *wanted;
+static bg_record wanted_log[BG_LOG_PLACES];
+static size_t wanted_count;
 
 unsigned long asked[ASK_COUNT];
 unsigned given[ASK_COUNT];
@@ -95,6 +97,12 @@ buffer lent_by_length(enum place brief, enum place lengthy, size_t count, size_t
     return lent(count < 1000 ? brief : lengthy, count, size);
 }
 
+logged lent_beside(buffer table)
+{
+    buffer log = lent(LOG, BG_LOG_PLACES, sizeof(bg_record)), count = lent(COUNT, 1, sizeof(size_t));
+    return (logged){table, log, count};
+}
+
 /* What is not touched costs no memory. */
 buffer lent_vast(size_t more, size_t size, const void *first, size_t first_bytes)
 {
@@ -116,9 +124,9 @@ static void show_buffer(const buffer *b)
 {
     printf(" [%zu:", b->count);
     for (size_t i = 0; i < b->count && i < SHOWN; i++) {
-        uint32_t x = 0;
+        uint64_t x = 0;
         memcpy(&x, b->read + i * b->size, b->size);
-        printf(" %0*" PRIx32, (int)(2 * b->size), x);
+        printf(" %0*" PRIx64, (int)(2 * b->size), x);
     }
     printf(b->count > SHOWN ? " ..]" : "]");
 }
@@ -216,7 +224,21 @@ void open_rooms(void)
 
 /* ---- Outputs ---- */
 
-static unsigned char filler;
+/* The byte that stands about what a call is lent from a room to write. */
+static unsigned char fillers[PLACES];
+
+/* The next byte for a room: another each time. */
+static unsigned char next_filler(enum place place)
+{
+    static unsigned char next;
+    next = (unsigned char)(next + 0x35);
+    return fillers[place] = next;
+}
+
+static size_t bytes_of(const buffer *b)
+{
+    return b->count * b->size;
+}
 
 /* Where the guard bytes of a buffer begin and end: 64 on both sides, or as many as the room has. */
 static unsigned char *guards_from(const buffer *b)
@@ -227,7 +249,7 @@ static unsigned char *guards_from(const buffer *b)
 
 static unsigned char *guards_to(const buffer *b)
 {
-    unsigned char *end = rooms[b->place].write + room_bytes[b->place], *to = b->write + b->count * b->size;
+    unsigned char *end = rooms[b->place].write + room_bytes[b->place], *to = b->write + bytes_of(b);
     return end - to < GUARD ? end : to + GUARD;
 }
 
@@ -239,59 +261,98 @@ static void *ready(const buffer *b, uint32_t refusal)
 {
     if (refusal != 0 || b->write == NULL)
         return (void *)(uintptr_t)b->read;
-    filler = (unsigned char)(filler + 0x35);
-    memset(guards_from(b), filler, (size_t)(guards_to(b) - guards_from(b)));
+    memset(guards_from(b), next_filler(b->place), (size_t)(guards_to(b) - guards_from(b)));
     return b->write;
 }
 
 /* The same for a buffer that is changed: what it holds stays, and only the bytes about it are filled. */
 static void *ready_changed(const buffer *b, uint32_t refusal)
 {
+    unsigned char filler, *to;
     if (refusal != 0 || b->write == NULL)
         return (void *)(uintptr_t)b->read;
-    filler = (unsigned char)(filler + 0x35);
+    filler = next_filler(b->place);
+    to = b->write + bytes_of(b);
     memset(guards_from(b), filler, (size_t)(b->write - guards_from(b)));
-    memset(b->write + b->count * b->size, filler, (size_t)(guards_to(b) - (b->write + b->count * b->size)));
+    memset(to, filler, (size_t)(guards_to(b) - to));
     return b->write;
 }
 
-static bool filled(const unsigned char *from, const unsigned char *to)
+/* What a call is lent that should only read it, whether it is refused or not. */
+static void *only_read(const buffer *b)
+{
+    return (void *)(uintptr_t)b->read;
+}
+
+/* A buffer that a granted call writes, and what it should hold then. */
+struct output {
+    const buffer *lent;
+    const void *want;
+};
+
+static bool filled(const unsigned char *from, const unsigned char *to, unsigned char filler)
 {
     while (from < to && *from == filler)
         from++;
     return from == to;
 }
 
-static void show_first_difference(const buffer *b)
+/* Whether it holds what the reference wrote. */
+static bool holds_wanted(const struct output *o)
 {
-    const unsigned char *want = wanted;
-    uint32_t x = 0, y = 0;
-    size_t i = 0;
+    return o->lent->write == NULL || memcmp(o->lent->write, o->want, bytes_of(o->lent)) == 0;
+}
+
+/* Whether the bytes about it are what they were. */
+static bool guards_stand(const struct output *o)
+{
+    const buffer *b = o->lent;
+    return b->write == NULL || (filled(guards_from(b), b->write, fillers[b->place]) &&
+                                filled(b->write + bytes_of(b), guards_to(b), fillers[b->place]));
+}
+
+static void show_first_difference(const struct output *o)
+{
+    const buffer *b = o->lent;
+    const unsigned char *want = o->want;
+    uint64_t x = 0, y = 0;
+    size_t i = 0, which = 0;
     while (memcmp(b->write + i, want + i, b->size) == 0)
         i += b->size;
+    while (now.buffers[which] != b)
+        which++;
     memcpy(&x, b->write + i, b->size);
     memcpy(&y, want + i, b->size);
-    printf(" writes 0x%" PRIx32 " at %zu, should be 0x%" PRIx32 "\n", x, i / b->size, y);
+    printf(" leaves 0x%" PRIx64 " at %zu of buffer %zu, should be 0x%" PRIx64 "\n", x, i / b->size, which + 1, y);
 }
 
 /*
  * Holds the number that a call gives; and where that is 0, what it wrote to what the reference did, and the bytes about
- * its output to what they were.
+ * its outputs to what they were.
  */
-static void hold_output(uint32_t got, uint32_t want, const buffer *b)
+static void hold_outputs(uint32_t got, uint32_t want, const struct output *outputs, size_t count)
 {
-    bool wrote = want == 0 && b->write != NULL;
-    size_t bytes = b->count * b->size;
-    bool same = !wrote || memcmp(b->write, wanted, bytes) == 0;
-    bool kept = !wrote || (filled(guards_from(b), b->write) && filled(b->write + bytes, guards_to(b)));
-    if (!is_shown(got == want && same && kept, want))
+    const struct output *other = NULL, *beside = NULL;
+    for (size_t i = 0; i < count && want == 0; i++) {
+        if (!holds_wanted(&outputs[i]))
+            other = &outputs[i];
+        if (!guards_stand(&outputs[i]))
+            beside = &outputs[i];
+    }
+    if (!is_shown(got == want && other == NULL && beside == NULL, want))
         return;
     if (got != want)
         show_answers((const uint64_t[]){got}, (const uint64_t[]){want}, 1);
-    else if (!kept)
+    else if (beside != NULL)
         printf(" writes beside its output, which it should not\n");
     else
-        show_first_difference(b);
+        show_first_difference(other);
+}
+
+/* The same of a call that has one. */
+static void hold_output(uint32_t got, uint32_t want, const buffer *b)
+{
+    hold_outputs(got, want, (const struct output[]){{b, wanted}}, 1);
 }
 
 /* ---- Answers as lists of numbers ---- */
@@ -438,16 +499,88 @@ void ask_accept(buffer table)
     hold_done(bg_accept(U16(table), table.count), ref_accept(U16(table), table.count));
 }
 
+/* The reference changes a copy. It looks at no table that is too long to be copied. */
+static void copy_table(const buffer *table)
+{
+    if (table->count > 0 && table->count <= LONGEST)
+        memcpy(wanted, table->read, bytes_of(table));
+}
+
+static void copy_log(const logged *l)
+{
+    memcpy(wanted_log, l->log.read, sizeof wanted_log);
+    memcpy(&wanted_count, l->count.read, sizeof wanted_count);
+}
+
 void ask_nudge(buffer table, size_t index, uint16_t value)
 {
     uint32_t want;
-    if (table.count > 0 && table.count <= LONGEST)
-        memcpy(wanted, table.read, table.count * table.size);
+    copy_table(&table);
     want = ref_nudge(wanted, table.count, index, density(value));
     at(ASK_nudge, &table, NULL, NULL);
     with(index);
     with(value);
     hold_output(bg_nudge(ready_changed(&table, want), table.count, index, density(value)), want, &table);
+}
+
+void ask_log_start(logged l)
+{
+    uint32_t want;
+    uint16_t *table;
+    size_t *count;
+    copy_log(&l);
+    want = ref_log_start(wanted, l.table.count, wanted_log, &wanted_count);
+    table = ready(&l.table, want);
+    count = ready_changed(&l.count, want);
+    at(ASK_log_start, &l.table, &l.log, &l.count);
+    hold_outputs(bg_log_start(table, l.table.count, only_read(&l.log), count), want,
+                 (const struct output[]){{&l.table, wanted}, {&l.count, &wanted_count}}, 2);
+}
+
+void ask_log_accept(logged l)
+{
+    uint32_t want;
+    size_t *count;
+    copy_log(&l);
+    want = ref_log_accept(U16(l.table), l.table.count, wanted_log, &wanted_count);
+    count = ready_changed(&l.count, want);
+    at(ASK_log_accept, &l.table, &l.log, &l.count);
+    hold_outputs(bg_log_accept(U16(l.table), l.table.count, only_read(&l.log), count), want,
+                 (const struct output[]){{&l.count, &wanted_count}}, 1);
+}
+
+void ask_log_nudge(logged l, size_t index, uint16_t value)
+{
+    uint32_t want;
+    uint16_t *table;
+    bg_record *log;
+    size_t *count;
+    copy_table(&l.table);
+    copy_log(&l);
+    want = ref_log_nudge(wanted, l.table.count, wanted_log, &wanted_count, index, density(value));
+    table = ready_changed(&l.table, want);
+    log = ready_changed(&l.log, want);
+    count = ready_changed(&l.count, want);
+    at(ASK_log_nudge, &l.table, &l.log, &l.count);
+    with(index);
+    with(value);
+    hold_outputs(bg_log_nudge(table, l.table.count, log, count, index, density(value)), want,
+                 (const struct output[]){{&l.table, wanted}, {&l.log, wanted_log}, {&l.count, &wanted_count}}, 3);
+}
+
+void ask_take_back(logged l)
+{
+    uint32_t want;
+    uint16_t *table;
+    size_t *count;
+    copy_table(&l.table);
+    copy_log(&l);
+    want = ref_take_back(wanted, l.table.count, wanted_log, &wanted_count);
+    table = ready_changed(&l.table, want);
+    count = ready_changed(&l.count, want);
+    at(ASK_take_back, &l.table, &l.log, &l.count);
+    hold_outputs(bg_take_back(table, l.table.count, only_read(&l.log), count), want,
+                 (const struct output[]){{&l.table, wanted}, {&l.count, &wanted_count}}, 2);
 }
 
 void ask_least_input(buffer table, uint16_t value)

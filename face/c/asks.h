@@ -17,6 +17,10 @@
     X(start, 1 << 0 | 1 << 1) \
     X(accept, 1 << 0 | 1 << 1 | 1 << 2) \
     X(nudge, 1 << 0 | 1 << 1 | 1 << 3 | 1 << 2 | 1 << 4) \
+    X(log_start, 1 << 0 | 1 << 1) \
+    X(log_accept, 1 << 0 | 1 << 1 | 1 << 2) \
+    X(log_nudge, 1 << 0 | 1 << 1 | 1 << 17 | 1 << 3 | 1 << 2 | 1 << 4 | 1 << 15) \
+    X(take_back, 1 << 0 | 1 << 1 | 1 << 2 | 1 << 17 | 1 << 16) \
     X(least_input, 1 << 0 | 1 << 1 | 1 << 2 | 1 << 5) \
     X(least_input_row, 1 << 0 | 1 << 1 | 1 << 6 | 1 << 2) \
     X(lut_inverse_interp16, 1 << 0 | 1 << 1) \
@@ -54,7 +58,7 @@ size_t below(size_t limit);
  * elements. Each is mapped twice: by `write` it is filled, and `read`, where nothing can be written, is what a call is
  * lent that should only read.
  */
-enum place { FIRST, SECOND, OUT, LONG_FIRST, LONG_SECOND, LONG_FLOATS, LONG_OUT, PLACES };
+enum place { FIRST, SECOND, OUT, LOG, COUNT, LONG_FIRST, LONG_SECOND, LONG_FLOATS, LONG_OUT, PLACES };
 enum { LONGEST = 1 << 20 };
 
 /* A buffer lent from a room: `count` elements of `size` bytes. */
@@ -65,6 +69,11 @@ typedef struct {
     enum place place;
 } buffer;
 
+/* A table, the BG_LOG_PLACES records of its log, and the one number that says how many of them stand. */
+typedef struct {
+    buffer table, log, count;
+} logged;
+
 /*
  * Lends what stands in the room. It begins where the room does or ends where it does, or up to 31 elements from there,
  * as the generator has it. Nothing is lent as a null pointer, or as a pointer to a byte that cannot be read.
@@ -74,13 +83,19 @@ buffer lent(enum place place, size_t count, size_t size);
 /* The same, of the place for short buffers or of the one for long ones. */
 buffer lent_by_length(enum place brief, enum place lengthy, size_t count, size_t size);
 
+/* Lends the records and the count of a log, whatever stands in their rooms, beside a table. */
+logged lent_beside(buffer table);
+
 /* Lends 2^32 and `more` elements that begin with the bytes given. All others are 0, and none can be written. */
 buffer lent_vast(size_t more, size_t size, const void *first, size_t first_bytes);
 
 /* Makes the rooms, each full of any bytes, and has a fault printed with the call that made it. */
 void open_rooms(void);
 
-/* One question of each export. A refused call is lent its output read-only. */
+/*
+ * One question of each export. A refused call is lent its output read-only; so is the log of every call that writes no
+ * record.
+ */
 void ask_version(void);
 void ask_lut_interp_linear16(buffer table, uint16_t position);
 void ask_lut_interp_linear16_row(buffer table, buffer positions, buffer out);
@@ -89,6 +104,10 @@ void ask_lut_interp_linear_gamma_impl(buffer table, size_t inputs, size_t depth,
 void ask_start(buffer table);
 void ask_accept(buffer table);
 void ask_nudge(buffer table, size_t index, uint16_t density);
+void ask_log_start(logged l);
+void ask_log_accept(logged l);
+void ask_log_nudge(logged l, size_t index, uint16_t density);
+void ask_take_back(logged l);
 void ask_least_input(buffer table, uint16_t density);
 void ask_least_input_row(buffer table, buffer densities, buffer out);
 void ask_lut_inverse_interp16(buffer table, uint16_t density);
@@ -122,5 +141,8 @@ extern const unsigned may_give[ASK_COUNT];
 /* The sweeps, with so many numbers of each class to be rounded; and so many calls at random, from a seed. */
 void sweeps(unsigned long numbers);
 void at_random(unsigned long calls, uint64_t from);
+
+/* Sittings with a log, of so many calls at random in all. */
+void sittings(unsigned long calls);
 
 #endif

@@ -1,5 +1,5 @@
 /*
- * Calls at random: every export, with tables, rows and tags of every length and kind, held to the reference.
+ * Calls at random: every export, with tables, logs, rows and tags of every length and kind, held to the reference.
  *
  * A seed gives the same calls with every compiler. C leaves open in which order the arguments of a call and the two
  * sides of a sum are worked out, so nothing is drawn inside an argument list, and no expression draws twice.
@@ -214,6 +214,137 @@ static uint16_t density_of(buffer b)
     return half();
 }
 
+/* ---- Logs ---- */
+
+static bg_record *records_of(logged l)
+{
+    return (bg_record *)(void *)l.log.write;
+}
+
+static size_t *count_of(logged l)
+{
+    return (size_t *)(void *)l.count.write;
+}
+
+static void put_record(logged l, size_t place, size_t index, uint16_t old_entry, uint16_t new_entry)
+{
+    bg_record record = {new_entry, old_entry, (uint16_t)index, 0};
+    records_of(l)[place] = record;
+}
+
+/* Any words in every place of the log, standing and free ones. */
+static void put_any_words(logged l)
+{
+    for (size_t i = 0; i < BG_LOG_PLACES; i++) {
+        uint64_t any = word();
+        memcpy(&records_of(l)[i], &any, sizeof any);
+    }
+}
+
+/* How many nudges are to stand: none, few, any number of them, or about as many as can. */
+static size_t any_standing(void)
+{
+    switch (below(4)) {
+    case 0:
+        return below(3);
+    case 1:
+        return BG_LOG_PLACES - below(3);
+    default:
+        return below(BG_LOG_PLACES + 1);
+    }
+}
+
+/* The least entry that fits at an index, the largest, or any between them. Where the table falls none may fit. */
+static uint16_t fitting(const uint16_t *table, size_t n, size_t index)
+{
+    uint16_t least = index > 0 ? table[index - 1] : 0, largest = index + 1 < n ? table[index + 1] : 65535;
+    switch (below(4)) {
+    case 0:
+        return least;
+    case 1:
+        return largest;
+    default:
+        return (uint16_t)(least + below((size_t)1 + (uint16_t)(largest - least)));
+    }
+}
+
+/* Nudges entries of the table, each to what fits there, and logs them: the log is sound where the table is in order. */
+static void nudge_some(logged l)
+{
+    uint16_t *table = u16_of(l.table);
+    size_t n = l.table.count, standing = n == 0 ? 0 : any_standing();
+    for (size_t i = 0; i < standing; i++) {
+        size_t index = below(n);
+        uint16_t to = fitting(table, n, index);
+        put_record(l, i, index, table[index], to);
+        table[index] = to;
+    }
+    *count_of(l) = standing;
+}
+
+/* A count that no sitting gives: above the places, or such only if it is not cut to 6, 8, 16 or 32 bits. */
+static size_t wrong_count(size_t standing)
+{
+    static const unsigned widths[] = {6, 8, 16, 32, 63};
+    switch (below(4)) {
+    case 0:
+        return BG_LOG_PLACES + 1 + below(3);
+    case 1:
+        return SIZE_MAX - below(3);
+    case 2:
+        return (size_t)word();
+    default:
+        return standing + ((size_t)1 << widths[below(5)]);
+    }
+}
+
+/* Makes the last record one that goes with the table but perhaps for its old entry, which is about a neighbour's. */
+static void forge_last(logged l)
+{
+    const uint16_t *table = u16_of(l.table);
+    size_t n = l.table.count, index = below(n), more = below(3);
+    uint16_t fits = fitting(table, n, index);
+    put_record(l, *count_of(l) - 1, index, (uint16_t)(fits + more - 1), table[index]);
+}
+
+static void flip_a_bit(logged l)
+{
+    uint64_t flipped;
+    bg_record *last = &records_of(l)[*count_of(l) - 1];
+    size_t bit = below(64);
+    memcpy(&flipped, last, sizeof flipped);
+    flipped ^= UINT64_C(1) << bit;
+    memcpy(last, &flipped, sizeof flipped);
+}
+
+/* Damages a log, or the table that it goes with: by chance, and by chance not. */
+static void damage(logged l)
+{
+    size_t kind = below(16), at = below(l.table.count), other = any_standing();
+    uint16_t entry = half();
+    if (kind < 2)
+        *count_of(l) = wrong_count(*count_of(l));
+    else if (kind == 2)
+        *count_of(l) = other;
+    else if (kind == 3 && l.table.count > 0)
+        u16_of(l.table)[at] = entry;
+    else if (kind < 7 && *count_of(l) > 0)
+        forge_last(l);
+    else if (kind < 9 && *count_of(l) > 0)
+        flip_a_bit(l);
+}
+
+/* A table and its log: sound, damaged, or of any words. */
+static logged any_logged(void)
+{
+    buffer b = table();
+    logged l = lent_beside(b);
+    put_any_words(l);
+    nudge_some(l);
+    damage(l);
+    return l;
+}
+
 /* ---- Tags ---- */
 
 static void put(uint8_t *to, size_t x, size_t bytes)
@@ -321,12 +452,46 @@ static void any_accept(void)
     ask_accept(b);
 }
 
+/* What an entry is nudged to: its own number, or often another close by. */
+static uint16_t nudged_to(buffer b, size_t index)
+{
+    size_t more = below(18);
+    uint16_t other = half(), near = index < b.count ? u16_of(b)[index] : other;
+    return more < 9 ? (uint16_t)(near + more - 4) : near;
+}
+
 static void any_nudge(void)
 {
     buffer b = table();
-    size_t index = number(b.count + 1), more = below(18);
-    uint16_t other = half(), near = index < b.count ? u16_of(b)[index] : other;
-    ask_nudge(b, index, more < 9 ? (uint16_t)(near + more - 4) : near);
+    size_t index = number(b.count + 1);
+    uint16_t to = nudged_to(b, index);
+    ask_nudge(b, index, to);
+}
+
+static void any_log_start(void)
+{
+    logged l = any_logged();
+    ask_log_start(l);
+}
+
+static void any_log_accept(void)
+{
+    logged l = any_logged();
+    ask_log_accept(l);
+}
+
+static void any_log_nudge(void)
+{
+    logged l = any_logged();
+    size_t index = number(l.table.count + 1);
+    uint16_t to = nudged_to(l.table, index);
+    ask_log_nudge(l, index, to);
+}
+
+static void any_take_back(void)
+{
+    logged l = any_logged();
+    ask_take_back(l);
 }
 
 static void any_least_input(void)
@@ -515,6 +680,12 @@ static void some(void)
     }
 }
 
+/* A tenth as many calls again, in sittings. */
+static void some_sittings(void)
+{
+    sittings(wanted_calls / 10);
+}
+
 /* Every export was asked, and in a long run so that it gave each of its numbers; a short one may miss some. */
 static void each_export(void)
 {
@@ -533,5 +704,6 @@ void at_random(unsigned long calls, uint64_t from)
     seed(from);
     open_rooms();
     subject("random calls", some);
+    subject("sittings with a log", some_sittings);
     subject("every export asked", each_export);
 }

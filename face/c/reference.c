@@ -1,12 +1,13 @@
 /*
- * Document 01's rules in plain C. Whole numbers are worked in 64 bits, where none of them overflows; floats in C's own
- * float and double with no fused step, so it is compiled with -ffp-contract=off.
+ * The rules of documents 01 and 02 in plain C. Whole numbers are worked in 64 bits, where none of them overflows;
+ * floats in C's own float and double with no fused step, so it is compiled with -ffp-contract=off.
  */
 #include "reference.h"
 
 #include <string.h>
 
-enum { MOST = 65536 };
+/* How many entries a table may have, and how many nudges may stand in a log. */
+enum { MOST = 65536, MOST_STANDING = 63 };
 
 static bool wrong_length(size_t n)
 {
@@ -98,7 +99,12 @@ uint32_t ref_accept(const uint16_t *table, size_t n)
     return wrong_length(n) ? 1 : falls(table, n) ? 2 : 0;
 }
 
-uint32_t ref_nudge(uint16_t *table, size_t n, size_t index, bg_density density)
+static bool fits(const uint16_t *table, size_t n, size_t index, uint16_t entry)
+{
+    return (index == 0 || entry >= table[index - 1]) && (index + 1 == n || entry <= table[index + 1]);
+}
+
+static uint32_t why_no_nudge(const uint16_t *table, size_t n, size_t index, uint16_t entry)
 {
     if (wrong_length(n))
         return 1;
@@ -106,9 +112,78 @@ uint32_t ref_nudge(uint16_t *table, size_t n, size_t index, bg_density density)
         return 3;
     if (falls(table, n))
         return 2;
-    if ((index > 0 && density.value < table[index - 1]) || (index + 1 < n && density.value > table[index + 1]))
-        return 4;
+    return fits(table, n, index, entry) ? 0 : 4;
+}
+
+uint32_t ref_nudge(uint16_t *table, size_t n, size_t index, bg_density density)
+{
+    uint32_t refusal = why_no_nudge(table, n, index, density.value);
+    if (refusal == 0)
+        table[index] = density.value;
+    return refusal;
+}
+
+/* ---- Taking nudges back: document 02, (ii) ---- */
+
+/* A granted start or accept empties the log, and its records stay. */
+static uint32_t emptied(uint32_t refusal, size_t *count)
+{
+    if (refusal == 0)
+        *count = 0;
+    return refusal;
+}
+
+uint32_t ref_log_start(uint16_t *table, size_t n, bg_record *log, size_t *count)
+{
+    (void)log;
+    return emptied(ref_start(table, n), count);
+}
+
+uint32_t ref_log_accept(const uint16_t *table, size_t n, bg_record *log, size_t *count)
+{
+    (void)log;
+    return emptied(ref_accept(table, n), count);
+}
+
+uint32_t ref_log_nudge(uint16_t *table, size_t n, bg_record *log, size_t *count, size_t index, bg_density density)
+{
+    uint32_t refusal = why_no_nudge(table, n, index, density.value);
+    if (refusal == 1)
+        return 1;
+    if (*count > MOST_STANDING)
+        return 17;
+    if (refusal != 0)
+        return refusal;
+    if (*count == MOST_STANDING)
+        return 15;
+    log[*count].index = (uint16_t)index;
+    log[*count].old_entry = table[index];
+    log[*count].new_entry = density.value;
+    log[*count].channel = 0;
+    ++*count;
     table[index] = density.value;
+    return 0;
+}
+
+/* With one table, a channel other than 0 is the upper half of an index that is beyond it. */
+static bool goes_with(const uint16_t *table, size_t n, bg_record last)
+{
+    size_t index = last.index + 65536 * (size_t)last.channel;
+    return index < n && last.new_entry == table[index] && fits(table, n, index, last.old_entry);
+}
+
+uint32_t ref_take_back(uint16_t *table, size_t n, bg_record *log, size_t *count)
+{
+    if (wrong_length(n))
+        return 1;
+    if (falls(table, n))
+        return 2;
+    if (*count > MOST_STANDING || (*count > 0 && !goes_with(table, n, log[*count - 1])))
+        return 17;
+    if (*count == 0)
+        return 16;
+    --*count;
+    table[log[*count].index] = log[*count].old_entry;
     return 0;
 }
 

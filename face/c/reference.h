@@ -1,6 +1,7 @@
 /*
- * What every export should answer: document 01's rules in plain C, written from its words and ICC.1 and from nothing
- * else. Each function takes what its export takes. A granted one writes its output; a refused one leaves it.
+ * What every export should answer: the rules of documents 01 and 02 in plain C, written from their words and ICC.1 and
+ * from nothing else. Each function takes what its export takes. A granted one writes its output; a refused one leaves
+ * it.
  */
 #ifndef REFERENCE_H
 #define REFERENCE_H
@@ -18,6 +19,11 @@ bg_code ref_lut_interp_linear_gamma_impl(const uint16_t *table, size_t n, size_t
 uint32_t ref_start(uint16_t *table, size_t n);
 uint32_t ref_accept(const uint16_t *table, size_t n);
 uint32_t ref_nudge(uint16_t *table, size_t n, size_t index, bg_density density);
+
+uint32_t ref_log_start(uint16_t *table, size_t n, bg_record *log, size_t *count);
+uint32_t ref_log_accept(const uint16_t *table, size_t n, bg_record *log, size_t *count);
+uint32_t ref_log_nudge(uint16_t *table, size_t n, bg_record *log, size_t *count, size_t index, bg_density density);
+uint32_t ref_take_back(uint16_t *table, size_t n, bg_record *log, size_t *count);
 
 bg_position ref_least_input(const uint16_t *table, size_t n, bg_density density);
 uint32_t ref_least_input_row(const uint16_t *table, size_t n, const uint16_t *densities, size_t densities_len,

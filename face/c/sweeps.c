@@ -1,8 +1,9 @@
 /*
  * Sweeps: every ICC layout, each byte of each short tag changed in every way and every two of its head in some, every
  * length about a tag's own, counts at their limits, tags and calls that are wrong in two ways, outputs of every telling
- * length, lengths past 2^32, and numbers rounded to float against C's own cast. Where an answer stands here as a
- * number, the reference is held to it, as the exports are to the reference.
+ * length, logs of every count and with each bit of the last record changed, lengths past 2^32, and numbers rounded to
+ * float against C's own cast. Where an answer stands here as a number, the reference is held to it, as the exports are
+ * to the reference.
  */
 #include "asks.h"
 #include "reference.h"
@@ -467,6 +468,155 @@ static void flat_inverses(void)
     }
 }
 
+/* ---- Logs ---- */
+
+/* What a table and its log are before a call, so that the next call finds them again. */
+struct kept {
+    logged l;
+    uint16_t table[65537];
+    bg_record log[BG_LOG_PLACES];
+    size_t count;
+};
+static struct kept kept;
+
+static void put_kept(void)
+{
+    if (kept.l.table.count > 0)
+        memcpy(kept.l.table.write, kept.table, kept.l.table.count * sizeof *kept.table);
+    memcpy(kept.l.log.write, kept.log, sizeof kept.log);
+    memcpy(kept.l.count.write, &kept.count, sizeof kept.count);
+}
+
+/* Lends a table of so many entries, rising or falling, and a log whose every record nudged one entry of it. */
+static void keep_log(size_t table_len, bool rising, size_t index, size_t count)
+{
+    buffer table = slope(lent_by_length(FIRST, LONG_FIRST, table_len, 2), rising);
+    kept.l = lent_beside(table);
+    if (table_len > 0)
+        memcpy(kept.table, table.read, table_len * sizeof *kept.table);
+    for (size_t i = 0; i < BG_LOG_PLACES; i++) {
+        bg_record record = {kept.table[index], kept.table[index], (uint16_t)index, 0};
+        kept.log[i] = record;
+    }
+    kept.count = count;
+}
+
+/* A call of each kind on what is kept. */
+static void each_call(size_t index, uint16_t value)
+{
+    put_kept();
+    ask_log_start(kept.l);
+    put_kept();
+    ask_log_accept(kept.l);
+    put_kept();
+    ask_log_nudge(kept.l, index, value);
+    put_kept();
+    ask_take_back(kept.l);
+}
+
+/* Every count to past the places, and counts that would do if they were cut to 8, 16 or 32 bits. */
+static void log_counts_of(size_t table_len, bool rising)
+{
+    static const size_t cut[] = {256, 65536, (size_t)1 << 31, (size_t)1 << 32, (size_t)1 << 63, SIZE_MAX - 62};
+    for (size_t count = 0; count <= 130; count++) {
+        keep_log(table_len, rising, 0, count);
+        each_call(0, kept.table[0]);
+    }
+    for (size_t i = 0; i < sizeof cut / sizeof *cut; i++)
+        for (size_t more = 0; more <= 63; more += more == 1 ? 60 : 1) {
+            keep_log(table_len, rising, 0, cut[i] + more);
+            each_call(0, kept.table[0]);
+        }
+}
+
+static void log_counts(void)
+{
+    static const size_t lengths[] = {0, 1, 2, 21, 65537};
+    for (size_t i = 0; i < sizeof lengths / sizeof *lengths; i++) {
+        log_counts_of(lengths[i], true);
+        log_counts_of(lengths[i], false);
+    }
+}
+
+/* Each bit of the last record changed, by itself and together with every other. */
+static void each_bit_of(size_t table_len, size_t index, size_t count)
+{
+    uint64_t sound;
+    keep_log(table_len, true, index, count);
+    memcpy(&sound, &kept.log[count - 1], sizeof sound);
+    for (unsigned a = 0; a < 64; a++)
+        for (unsigned b = a; b < 64; b++) {
+            uint64_t changed = sound ^ (UINT64_C(1) << a | UINT64_C(1) << b);
+            memcpy(&kept.log[count - 1], &changed, sizeof changed);
+            put_kept();
+            ask_take_back(kept.l);
+            put_kept();
+            ask_log_nudge(kept.l, index, kept.table[index]);
+        }
+}
+
+static void last_record_bits(void)
+{
+    static const struct {
+        size_t table_len, index;
+    } nudges[] = {{1, 0}, {2, 0}, {2, 1}, {3, 0}, {3, 1}, {3, 2}, {21, 0}, {21, 10}, {21, 20}};
+    for (size_t i = 0; i < sizeof nudges / sizeof *nudges; i++) {
+        each_bit_of(nudges[i].table_len, nudges[i].index, 1);
+        each_bit_of(nudges[i].table_len, nudges[i].index, 62);
+        each_bit_of(nudges[i].table_len, nudges[i].index, 63);
+    }
+}
+
+/* Each bit by itself over the longest table, which has an entry at every index of 16 bits. */
+static void last_record_bits_longest(void)
+{
+    static const size_t indices[] = {0, 1, 32768, 65534, 65535};
+    for (size_t i = 0; i < sizeof indices / sizeof *indices; i++) {
+        keep_log(65536, true, indices[i], 63);
+        for (size_t bit = 0; bit < 64; bit++) {
+            uint64_t flipped;
+            memcpy(&flipped, &kept.log[0], sizeof flipped);
+            flipped ^= UINT64_C(1) << bit;
+            memcpy(&kept.log[62], &flipped, sizeof flipped);
+            put_kept();
+            ask_take_back(kept.l);
+        }
+    }
+}
+
+/* Every old and new entry about the table's own, at every index about the table, in tables with and without room. */
+static void last_record_entries(void)
+{
+    static const uint16_t tables[][3] = {{2, 4, 6}, {4, 4, 4}, {0, 4, 4}, {4, 4, 65535}, {0, 0, 65535}, {4, 2, 6}};
+    for (size_t t = 0; t < sizeof tables / sizeof *tables; t++)
+        for (size_t n = 1; n <= 3; n++)
+            for (size_t way = 0; way < 5 * 11 * 11; way++) {
+                size_t old_entry = way / 5 % 11, new_entry = way / 55;
+                bg_record record = {(uint16_t)(new_entry - 2), (uint16_t)(old_entry - 2), (uint16_t)(way % 5), 0};
+                keep_log(n, true, 0, 1);
+                memcpy(kept.table, tables[t], n * sizeof **tables);
+                kept.log[0] = record;
+                put_kept();
+                ask_take_back(kept.l);
+            }
+}
+
+/* Every index and entry about a table's own, over logs with room and without. */
+static void log_nudges(void)
+{
+    static const uint16_t tables[][3] = {{2, 4, 6}, {4, 4, 4}, {0, 4, 4}, {4, 4, 65535}, {0, 0, 65535}, {4, 2, 6}};
+    static const size_t counts[] = {0, 1, 62, 63, 64};
+    static const size_t indices[] = {0, 1, 2, 3, 4, 65536, (size_t)1 << 32, SIZE_MAX};
+    for (size_t t = 0; t < sizeof tables / sizeof *tables; t++)
+        for (size_t n = 1; n <= 3; n++)
+            for (size_t way = 0; way < 5 * 8 * 11; way++) {
+                keep_log(n, true, 0, counts[way % 5]);
+                memcpy(kept.table, tables[t], n * sizeof **tables);
+                put_kept();
+                ask_log_nudge(kept.l, indices[way / 5 % 8], (uint16_t)(way / 40 - 2));
+            }
+}
+
 /* Lengths past 2^32, of each buffer of each export, which would do if they were cut to 32 bits. */
 static void vast(void)
 {
@@ -486,6 +636,10 @@ static void vast(void)
         ask_start(table);
         ask_accept(table);
         ask_nudge(table, 0, 1);
+        ask_log_start(lent_beside(table));
+        ask_log_accept(lent_beside(table));
+        ask_log_nudge(lent_beside(table), 0, 1);
+        ask_take_back(lent_beside(table));
         ask_least_input(table, 1);
         ask_least_input_row(table, row, lent(OUT, 2, 4));
         ask_least_input_row(two, table, longs);
@@ -650,6 +804,11 @@ void sweeps(unsigned long of_each_class)
     subject("buffers of tags", buffers);
     subject("outputs of every length", outputs);
     subject("flat tables inverted", flat_inverses);
+    subject("logs of every count", log_counts);
+    subject("logged nudges about a table's entries", log_nudges);
+    subject("the last record, its bits changed", last_record_bits);
+    subject("the last record over the longest table", last_record_bits_longest);
+    subject("the last record, about a table's entries", last_record_entries);
     subject("lengths past 2^32", vast);
     subject("f64 of any pattern", any_pattern);
     subject("f64 at a tie, or next to one", normal_ties);
