@@ -12,7 +12,7 @@
 #include <unistd.h>
 
 /* PAGE has whole pages of any size that a machine, or the one below an emulator, may have. */
-enum { PAGE = 65536, GUARD = 64, SHOWN = 64 };
+enum { PAGE = 65536, GUARD = 64, SHOWN = 44 };
 
 static const size_t room_bytes[PLACES] = {
     [FIRST] = PAGE, [SECOND] = PAGE, [OUT] = PAGE, [LOG] = PAGE, [COUNT] = PAGE,
@@ -131,12 +131,29 @@ static void show_buffer(const buffer *b)
     printf(b->count > SHOWN ? " ..]" : "]");
 }
 
+/* Of a log only the records about the count, which are all that a call may look at or write. */
+static void show_log(const buffer *log, const buffer *count)
+{
+    size_t standing;
+    memcpy(&standing, count->read, sizeof standing);
+    printf(" [%zu:", log->count);
+    for (size_t i = standing < 2 ? 0 : standing - 2; i < log->count && i <= standing; i++) {
+        uint64_t x;
+        memcpy(&x, log->read + i * sizeof x, sizeof x);
+        printf(" %016" PRIx64 " at %zu", x, i);
+    }
+    printf("]");
+}
+
 /* The call, so that it can be made again: its export, the first elements of each buffer, and the other arguments. */
 static void show_call(void)
 {
     printf("face: %s, call %lu:", export_names[now.export], now.call);
     for (size_t i = 0; i < 3 && now.buffers[i] != NULL; i++)
-        show_buffer(now.buffers[i]);
+        if (now.buffers[i]->place == LOG)
+            show_log(now.buffers[i], now.buffers[i + 1]);
+        else
+            show_buffer(now.buffers[i]);
     for (size_t i = 0; i < now.number_count; i++)
         printf(" 0x%" PRIx64, now.numbers[i]);
 }

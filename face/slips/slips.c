@@ -319,6 +319,181 @@ uint32_t __wrap_bg_nudge(uint16_t *table, size_t n, size_t index, bg_density den
     return r;
 }
 
+/* ---- Taking nudges back ---- */
+
+uint32_t __real_bg_log_start(uint16_t *table, size_t n, bg_record *log, size_t *count);
+uint32_t __wrap_bg_log_start(uint16_t *table, size_t n, bg_record *log, size_t *count)
+{
+    size_t stood = *count;
+    uint32_t r = __real_bg_log_start(table, n, log, count);
+    if (SLIP("bg_log_start: the log is not emptied") && r == 0)
+        *count = stood;
+    if (SLIP("bg_log_start: a count above the places stays") && r == 0 && stood > BG_LOG_PLACES)
+        *count = stood;
+    if (SLIP("bg_log_start: a refused one empties the log") && r != 0)
+        *count = 0;
+    if (SLIP("bg_log_start: the last record is cleared") && r == 0)
+        memset(&log[BG_LOG_PLACES - 1], 0, sizeof *log);
+    return r;
+}
+
+uint32_t __real_bg_log_accept(const uint16_t *table, size_t n, bg_record *log, size_t *count);
+uint32_t __wrap_bg_log_accept(const uint16_t *table, size_t n, bg_record *log, size_t *count)
+{
+    size_t stood = *count;
+    uint32_t r = __real_bg_log_accept(table, n, log, count);
+    if (SLIP("bg_log_accept: the count is kept") && r == 0)
+        *count = stood;
+    if (SLIP("bg_log_accept: 17 for a count above the places") && r == 0 && stood > BG_LOG_PLACES) {
+        *count = stood;
+        return 17;
+    }
+    if (SLIP("bg_log_accept: a falling table empties the log") && r == 2)
+        *count = 0;
+    if (SLIP("bg_log_accept: the first record is cleared") && r == 0)
+        memset(log, 0, sizeof *log);
+    return r;
+}
+
+/* What makes a last record go with the table, in parts: its index and new entry, and its old entry on either side. */
+static bool is_last(const uint16_t *table, size_t n, bg_record last)
+{
+    return last.channel == 0 && last.index < n && last.new_entry == table[last.index];
+}
+
+static bool clears_left(const uint16_t *table, bg_record last)
+{
+    return last.index == 0 || last.old_entry >= table[last.index - 1];
+}
+
+static bool clears_right(const uint16_t *table, size_t n, bg_record last)
+{
+    return last.index + (size_t)1 >= n || last.old_entry <= table[last.index + 1];
+}
+
+uint32_t __real_bg_log_nudge(uint16_t *table, size_t n, bg_record *log, size_t *count, size_t index,
+                             bg_density density);
+uint32_t __wrap_bg_log_nudge(uint16_t *table, size_t n, bg_record *log, size_t *count, size_t index,
+                             bg_density density)
+{
+    size_t stood = *count, none = 0, few = (uint32_t)stood;
+    uint16_t old_entry = n > 0 && n <= 65536 && index < n ? table[index] : 0;
+    bg_record there = stood < BG_LOG_PLACES ? log[stood] : log[0], made, elsewhere[BG_LOG_PLACES];
+    uint32_t r;
+    if (SLIP("bg_log_nudge: the index is cut to 32 bits"))
+        index = (uint32_t)index;
+    if (SLIP("bg_log_nudge: the count is not tested") && stood > BG_LOG_PLACES)
+        return __real_bg_log_nudge(table, n, elsewhere, &none, index, density);
+    if (SLIP("bg_log_nudge: the count is cut to 32 bits") && stood != few)
+        return __real_bg_log_nudge(table, n, log, &few, index, density);
+    r = __real_bg_log_nudge(table, n, log, count, index, density);
+    if (SLIP("bg_log_nudge: a refused nudge is logged") && r == 4 && stood < BG_LOG_PLACES) {
+        bg_record refused = {density.value, old_entry, (uint16_t)index, 0};
+        log[stood] = refused;
+        *count = stood + 1;
+    }
+    if (SLIP("bg_log_nudge: 3 before 17") && r == 17 && index >= n)
+        return 3;
+    if (SLIP("bg_log_nudge: 2 before 17") && r == 17 && __real_bg_accept(table, n) == 2)
+        return 2;
+    if (SLIP("bg_log_nudge: 2 before 3") && r == 3 && __real_bg_accept(table, n) == 2)
+        return 2;
+    if (SLIP("bg_log_nudge: 15 before 3") && r == 3 && stood == BG_LOG_PLACES)
+        return 15;
+    if (SLIP("bg_log_nudge: 15 before 4") && r == 4 && stood == BG_LOG_PLACES)
+        return 15;
+    if (SLIP("bg_log_nudge: a 64th nudge is let through") && r == 15)
+        return 0;
+    if (r != 0)
+        return r;
+    made = log[stood];
+    if (SLIP("bg_log_nudge: the entry's own number is not logged") && density.value == old_entry)
+        *count = stood, log[stood] = there;
+    if (SLIP("bg_log_nudge: old and new entry are swapped"))
+        log[stood].old_entry = made.new_entry, log[stood].new_entry = made.old_entry;
+    if (SLIP("bg_log_nudge: the log is full at 62") && stood == BG_LOG_PLACES - 1) {
+        *count = stood, log[stood] = there, table[index] = old_entry;
+        return 15;
+    }
+    if (SLIP("bg_log_nudge: 17 for a last record that does not go with the table") && stood > 0 &&
+        log[stood - 1].channel != 0) {
+        *count = stood, log[stood] = there, table[index] = old_entry;
+        return 17;
+    }
+    if (SLIP("bg_log_nudge: the channel keeps what it held"))
+        log[stood].channel = there.channel;
+    if (SLIP("bg_log_nudge: the next record is written too") && stood + 1 < BG_LOG_PLACES)
+        log[stood + 1] = made;
+    if (SLIP("bg_log_nudge: a record past the log is written") && stood + 1 == BG_LOG_PLACES)
+        log[stood + 1] = made;
+    if (SLIP("bg_log_nudge: a freed place is passed over") && there.channel == 0 && stood + 1 < BG_LOG_PLACES)
+        log[stood] = there, log[stood + 1] = made;
+    if (SLIP("bg_log_nudge: the record is not written"))
+        log[stood] = there;
+    if (SLIP("bg_log_nudge: the entry is not set"))
+        table[index] = old_entry;
+    return 0;
+}
+
+uint32_t __real_bg_take_back(uint16_t *table, size_t n, bg_record *log, size_t *count);
+uint32_t __wrap_bg_take_back(uint16_t *table, size_t n, bg_record *log, size_t *count)
+{
+    size_t stood = *count, few = (uint32_t)stood, most = BG_LOG_PLACES;
+    bg_record last = stood > 0 && stood <= BG_LOG_PLACES ? log[stood - 1] : log[0];
+    uint32_t r;
+    if (SLIP("bg_take_back: the count is not tested") && stood > BG_LOG_PLACES)
+        return __real_bg_take_back(table, n, log, &most);
+    if (SLIP("bg_take_back: the count is cut to 32 bits") && stood != few)
+        return __real_bg_take_back(table, n, log, &few);
+    r = __real_bg_take_back(table, n, log, count);
+    if (SLIP("bg_take_back: 17 before 2") && r == 2 && stood > BG_LOG_PLACES)
+        return 17;
+    if (SLIP("bg_take_back: 16 before 2") && r == 2 && stood == 0)
+        return 16;
+    if (SLIP("bg_take_back: 17 for 16") && r == 16)
+        return 17;
+    if (SLIP("bg_take_back: 16 for 17") && r == 17 && stood <= BG_LOG_PLACES)
+        return 16;
+    if (SLIP("bg_take_back: 16 for a count above the places") && r == 17 && stood > BG_LOG_PLACES)
+        return 16;
+    if (r == 17 && stood <= BG_LOG_PLACES) {
+        if (SLIP("bg_take_back: only the left neighbour counts") && is_last(table, n, last) && clears_left(table, last))
+            return 0;
+        if (SLIP("bg_take_back: only the right neighbour counts") && is_last(table, n, last) &&
+            clears_right(table, n, last))
+            return 0;
+        if (SLIP("bg_take_back: the new entry is not compared") && last.channel == 0 && last.index < n &&
+            clears_left(table, last) && clears_right(table, n, last))
+            return 0;
+        if (SLIP("bg_take_back: the index is cut to 16 bits") && last.index < n &&
+            last.new_entry == table[last.index] && clears_left(table, last) && clears_right(table, n, last))
+            return 0;
+        if (SLIP("bg_take_back: an index at the table's end is let through") && last.channel == 0 && last.index == n)
+            return 0;
+    }
+    if (r != 0)
+        return r;
+    if (SLIP("bg_take_back: the count is left"))
+        *count = stood;
+    if (SLIP("bg_take_back: the entry stays"))
+        table[last.index] = last.new_entry;
+    if (SLIP("bg_take_back: the first nudge is taken back, not the last") && stood > 1)
+        table[last.index] = last.new_entry, table[log[0].index] = log[0].old_entry;
+    if (SLIP("bg_take_back: the record is cleared"))
+        memset(&log[stood - 1], 0, sizeof *log);
+    if (SLIP("bg_take_back: an old entry equal to a neighbour does not fit") &&
+        ((last.index > 0 && last.old_entry == table[last.index - 1]) ||
+         (last.index + (size_t)1 < n && last.old_entry == table[last.index + 1]))) {
+        *count = stood, table[last.index] = last.new_entry;
+        return 17;
+    }
+    if (SLIP("bg_take_back: a full log takes none back") && stood == BG_LOG_PLACES) {
+        *count = stood, table[last.index] = last.new_entry;
+        return 17;
+    }
+    return 0;
+}
+
 /* ---- From density back to drive ---- */
 
 bg_position __real_bg_lut_inverse_interp16(const uint16_t *table, size_t n, bg_density density);
