@@ -148,6 +148,10 @@ static void show_log(const buffer *log, const buffer *count)
 /* The call, so that it can be made again: its export, the first elements of each buffer, and the other arguments. */
 static void show_call(void)
 {
+    if (now.export == ASK_COUNT) {
+        printf("face: a call that is no question");
+        return;
+    }
     printf("face: %s, call %lu:", export_names[now.export], now.call);
     for (size_t i = 0; i < 3 && now.buffers[i] != NULL; i++)
         if (now.buffers[i]->place == LOG)
@@ -451,6 +455,12 @@ static void at(enum export export, const buffer *a, const buffer *b, const buffe
     now.buffers[2] = c;
     now.number_count = 0;
     now.call = ++asked[export];
+}
+
+void end_of_questions(void)
+{
+    now.export = ASK_COUNT;
+    now.buffers[0] = NULL;
 }
 
 /* Says what else it is given. */

@@ -132,6 +132,9 @@ void ask_para_read(buffer tag);
 void ask_para_curve(buffer tag);
 void ask_para_write(size_t function_type, const int32_t *raw, buffer out);
 
+/* Says that the calls from here on are made elsewhere, so that no question is shown where one of them faults. */
+void end_of_questions(void);
+
 /* How often each export was asked, and which numbers it should have given. */
 extern unsigned long asked[ASK_COUNT];
 extern unsigned given[ASK_COUNT];

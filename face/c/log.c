@@ -161,6 +161,8 @@ static void nudge_refused(void)
     uint16_t *too_long = lend_same(9, 65537);
     REFUSED(BG_INDEX_BEYOND, bg_log_nudge(OF(s), 3, density(30)));
     REFUSED(BG_INDEX_BEYOND, bg_log_nudge(OF(s), SIZE_MAX, density(30)));
+    REFUSED(BG_INDEX_BEYOND, bg_log_nudge(OF(s), ((size_t)1 << 32) + 1, density(25)));
+    REFUSED(BG_INDEX_BEYOND, bg_log_nudge(OF(s), 65537, density(25)));
     REFUSED(BG_OUTSIDE_NEIGHBOURS, bg_log_nudge(OF(s), 1, density(9)));
     REFUSED(BG_OUTSIDE_NEIGHBOURS, bg_log_nudge(OF(s), 1, density(31)));
     REFUSED(BG_OUTSIDE_NEIGHBOURS, bg_log_nudge(OF(s), 0, density(21)));

@@ -125,12 +125,23 @@ static void one(struct step s)
         show(s, got, want);
 }
 
-/* An entry about those that fit at an index. */
+/* An entry for an index: the least or the largest that fits there, one beside these, or any between them. */
 static uint16_t about_fitting(size_t index)
 {
     size_t n = lent_now.table_len, least = index == 0 ? 0 : replayed[index - 1];
     size_t largest = index + 1 < n ? replayed[index + 1] : 65535;
-    return (uint16_t)(least + below(largest - least + 3) - 1);
+    switch (below(8)) {
+    case 0:
+        return (uint16_t)least;
+    case 1:
+        return (uint16_t)largest;
+    case 2:
+        return (uint16_t)(least - 1);
+    case 3:
+        return (uint16_t)(largest + 1);
+    default:
+        return (uint16_t)(least + below(largest - least + 1));
+    }
 }
 
 /* A call, of which two in three are the kind that is usual now: nudges, so that the log fills, or take-backs. */
@@ -175,6 +186,7 @@ void sittings(unsigned long calls)
 {
     static const size_t lengths[] = {1, 2, 3, 5, 21, 256, 1024};
     enum { LENGTHS = sizeof lengths / sizeof *lengths };
+    end_of_questions();
     for (size_t i = 0; i < LENGTHS; i++)
         sit(lengths[i], calls / LENGTHS);
     sit(65536, calls / 100);
