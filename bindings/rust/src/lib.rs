@@ -14,7 +14,7 @@
 //! A curve arrives as an ICC tag. Ask how many entries it has, and read them into a buffer of that length.
 //!
 //! ```
-//! use brassgroat::{Density, Drive, Refusal, curv};
+//! use brassgroat::{Density, Drive, Log, Refusal, curv};
 //!
 //! let tag = *b"curv\0\0\0\0\0\0\0\x05\x00\x00\x23\x28\x75\x30\xcb\x20\xff\xff";
 //! let mut table = [0; 5];
@@ -23,11 +23,17 @@
 //! assert_eq!(table, [0, 9000, 30000, 52000, 65535]);
 //!
 //! // It may be worked on if no entry is below the one before it.
-//! brassgroat::accept(&table)?;
+//! let mut log = Log::new();
+//! log.accept(&table)?;
 //!
 //! // The operator nudges the middle. A nudge past a neighbour is refused, and nothing has changed.
-//! brassgroat::nudge(&mut table, 2, Density(33000))?;
-//! assert_eq!(brassgroat::nudge(&mut table, 2, Density(60000)), Err(Refusal::OutsideNeighbours));
+//! log.nudge(&mut table, 2, Density(33000))?;
+//! assert_eq!(log.nudge(&mut table, 2, Density(60000)), Err(Refusal::OutsideNeighbours));
+//! assert_eq!(table, [0, 9000, 33000, 52000, 65535]);
+//!
+//! // An overshoot is taken back. Whoever takes nothing back needs no log: `accept` and `nudge` are there without one.
+//! log.nudge(&mut table, 2, Density(45000))?;
+//! log.take_back(&mut table)?;
 //! assert_eq!(table, [0, 9000, 33000, 52000, 65535]);
 //!
 //! // A drive in, a density out; and back, the least drive that gives at least that density.
@@ -67,6 +73,7 @@ mod curves;
 mod floats;
 pub mod house;
 mod inverses;
+mod log;
 mod lookups;
 pub mod para;
 mod parametrics;
@@ -81,6 +88,7 @@ pub use floats::{
     s15_fixed16_number_to_float, u8_fixed_8number_to_float,
 };
 pub use inverses::{invert_lut, least_input, least_input_row, lut_inverse_interp16};
+pub use log::{Log, Record};
 pub use lookups::{bake, lut_interp_linear_gamma_impl, lut_interp_linear16, lut_interp_linear16_row};
 pub use parametrics::{ParametricCurve, compare_parametric};
 pub use refusal::Refusal;

@@ -2,7 +2,10 @@
 //!
 //! What each asks of its caller is that a pointer is good for as many elements as the count beside it says, and that no output overlaps another buffer of
 //! the call. The safe functions of this crate pass the pointer and the length of a slice, and an output is always a `&mut` slice, so both hold.
-use crate::{Density, Drive};
+//!
+//! A log has no count of its elements beside it. Its pointer must be good for [`Log::PLACES`](crate::Log::PLACES)
+//! records, as that of a [`Log`](crate::Log)'s own array is.
+use crate::{Density, Drive, Record};
 
 #[repr(C)]
 pub struct Sample {
@@ -91,6 +94,18 @@ unsafe extern "C" {
     pub fn bg_start(table: *mut u16, table_len: usize) -> u32;
     pub fn bg_accept(table: *const u16, table_len: usize) -> u32;
     pub fn bg_nudge(table: *mut u16, table_len: usize, index: usize, density: Density) -> u32;
+
+    pub fn bg_log_start(table: *mut u16, table_len: usize, log: *mut Record, count: *mut usize) -> u32;
+    pub fn bg_log_accept(table: *const u16, table_len: usize, log: *mut Record, count: *mut usize) -> u32;
+    pub fn bg_log_nudge(
+        table: *mut u16,
+        table_len: usize,
+        log: *mut Record,
+        count: *mut usize,
+        index: usize,
+        density: Density,
+    ) -> u32;
+    pub fn bg_take_back(table: *mut u16, table_len: usize, log: *mut Record, count: *mut usize) -> u32;
 
     pub fn bg_least_input(table: *const u16, table_len: usize, density: Density) -> Position;
     pub fn bg_least_input_row(

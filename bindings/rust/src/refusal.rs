@@ -43,13 +43,20 @@ pub enum Refusal {
     OutsideRange,
     /// The input of [`lut_interp_linear`](crate::lut_interp_linear) is a NaN, below 0 or above 1.
     OutsideUnit,
+    /// As many nudges stand in the [`Log`](crate::Log) as it holds.
+    LogFull,
+    /// No nudge stands in the [`Log`](crate::Log).
+    NothingToTakeBack,
+    /// The last nudge in the [`Log`](crate::Log) does not go with the table: it was made on another one, or the table
+    /// was changed since by other means.
+    BadLog,
     /// A number that this version has no name for, from an archive that is newer than the crate.
     #[non_exhaustive]
     Unnamed(u32),
 }
 
 impl Refusal {
-    /// Every refusal that has a name, in the order of the numbers from 1 on.
+    /// Every refusal that has a name, in the order of their numbers. 14 has none yet: no call gives it.
     pub const ALL: &[Refusal] = &[
         Refusal::TableLength,
         Refusal::NotNondecreasing,
@@ -64,6 +71,9 @@ impl Refusal {
         Refusal::FunctionType,
         Refusal::OutsideRange,
         Refusal::OutsideUnit,
+        Refusal::LogFull,
+        Refusal::NothingToTakeBack,
+        Refusal::BadLog,
     ];
 
     /// Its number.
@@ -82,6 +92,9 @@ impl Refusal {
             Refusal::FunctionType => 11,
             Refusal::OutsideRange => 12,
             Refusal::OutsideUnit => 13,
+            Refusal::LogFull => 15,
+            Refusal::NothingToTakeBack => 16,
+            Refusal::BadLog => 17,
             Refusal::Unnamed(number) => number,
         }
     }
@@ -96,8 +109,11 @@ impl Refusal {
     /// assert_eq!(Refusal::of_number(31).map(Refusal::number), Some(31));
     /// ```
     pub fn of_number(number: u32) -> Option<Refusal> {
-        let at = number.checked_sub(1)?;
-        Some(Refusal::ALL.get(at as usize).copied().unwrap_or(Refusal::Unnamed(number)))
+        if number == 0 {
+            return None;
+        }
+        let named = Refusal::ALL.iter().find(|refusal| refusal.number() == number);
+        Some(named.copied().unwrap_or(Refusal::Unnamed(number)))
     }
 }
 
@@ -117,6 +133,9 @@ impl fmt::Display for Refusal {
             Refusal::FunctionType => "the function type is above 4: ICC.1 has types 0 to 4",
             Refusal::OutsideRange => "a size is outside its range: 2 to 65,536 inputs or entries, and 1 to 16 bits",
             Refusal::OutsideUnit => "the input is a NaN, below 0 or above 1: bring it into that range first",
+            Refusal::LogFull => "the log is full: take a nudge back, or start or accept anew, which empties it",
+            Refusal::NothingToTakeBack => "no nudge stands in the log: there is nothing to take back",
+            Refusal::BadLog => "the log's last nudge was made on another table: lend that one, or accept this one anew",
             Refusal::Unnamed(number) => return write!(f, "refused with {number}, which this version has no name for: see the archive's own header"),
         })
     }
