@@ -1,6 +1,6 @@
 /*
- * A morning at the lab, in C: a curve arrives as an ICC tag, the operator nudges a point, the day's jobs read the curve, and it
- * goes back into a tag. From the project's root:
+ * A morning at the lab, in C: a curve arrives as an ICC tag, the operator nudges a point, overshoots and takes that
+ * back, the day's jobs read the curve, and it goes back into a tag. From the project's root:
  *
  *     rt staticlib brassgroat
  *     cc -Iinclude -o target/curve examples/curve.c target/staticlib/libbrassgroat.a && target/curve
@@ -41,15 +41,24 @@ int main(void)
     must(bg_curv_read(tag, sizeof tag, table, n), "reading the tag");
     printf("the tag has %zu entries, the third is %u\n", n, (unsigned)table[2]);
 
-    /* A curve may be worked on if no entry is below the one before it. */
-    must(bg_accept(table, n), "accepting the curve");
+    /* A curve may be worked on if no entry is below the one before it. The log beside it is empty from here on. */
+    bg_record log[BG_LOG_PLACES];
+    size_t standing;
+    must(bg_log_accept(table, n, log, &standing), "accepting the curve");
 
     /* The operator nudges the middle. A nudge past a neighbour is refused, and the curve stays in order. */
-    bg_density darker = {33000}, too_dark = {60000};
-    must(bg_nudge(table, n, 2, darker), "nudging the third entry");
+    bg_density darker = {33000}, too_dark = {60000}, overshot = {45000};
+    must(bg_log_nudge(table, n, log, &standing, 2, darker), "nudging the third entry");
     printf("nudged to %u\n", (unsigned)table[2]);
-    if (bg_nudge(table, n, 2, too_dark) == BG_OUTSIDE_NEIGHBOURS)
+    if (bg_log_nudge(table, n, log, &standing, 2, too_dark) == BG_OUTSIDE_NEIGHBOURS)
         printf("60000 is above the next entry: still %u\n", (unsigned)table[2]);
+
+    /* A nudge that went too far is taken back. The log says what stands. */
+    must(bg_log_nudge(table, n, log, &standing, 2, overshot), "nudging it again");
+    printf("overshot to %u\n", (unsigned)table[2]);
+    must(bg_take_back(table, n, log, &standing), "taking that back");
+    printf("taken back to %u; what stands is entry %u, from %u to %u\n", (unsigned)table[2], (unsigned)log[0].index,
+           (unsigned)log[0].old_entry, (unsigned)log[0].new_entry);
 
     /* A drive in, a density out. They are two types, so that neither is written in the other's column. */
     bg_drive half = {32768};

@@ -1,11 +1,12 @@
-//! A morning at the lab, in Rust: a curve arrives as an ICC tag, the operator nudges a point, the day's jobs read the curve, and it
-//! goes back into a tag. It prints what examples/curve.c does. From the project's root:
+//! A morning at the lab, in Rust: a curve arrives as an ICC tag, the operator nudges a point, overshoots and takes that
+//! back, the day's jobs read the curve, and it goes back into a tag. It prints what examples/curve.c does. From the
+//! project's root:
 //!
 //! ```text
 //! rt staticlib brassgroat
 //! cd bindings/rust && cargo run --example curve
 //! ```
-use brassgroat::{Density, Drive, Refusal, curv};
+use brassgroat::{Density, Drive, Log, Refusal, curv};
 
 fn main() -> Result<(), Refusal> {
     // An archive of another version may have other structs than this crate.
@@ -20,15 +21,23 @@ fn main() -> Result<(), Refusal> {
     curv::read(&tag, &mut table)?;
     println!("the tag has {n} entries, the third is {}", table[2]);
 
-    // A curve may be worked on if no entry is below the one before it.
-    brassgroat::accept(&table)?;
+    // A curve may be worked on if no entry is below the one before it. The log beside it is empty from here on.
+    let mut log = Log::new();
+    log.accept(&table)?;
 
     // The operator nudges the middle. A nudge past a neighbour is refused, and the curve stays in order.
-    brassgroat::nudge(&mut table, 2, Density(33000))?;
+    log.nudge(&mut table, 2, Density(33000))?;
     println!("nudged to {}", table[2]);
-    if brassgroat::nudge(&mut table, 2, Density(60000)) == Err(Refusal::OutsideNeighbours) {
+    if log.nudge(&mut table, 2, Density(60000)) == Err(Refusal::OutsideNeighbours) {
         println!("60000 is above the next entry: still {}", table[2]);
     }
+
+    // A nudge that went too far is taken back. The log says what stands.
+    log.nudge(&mut table, 2, Density(45000))?;
+    println!("overshot to {}", table[2]);
+    log.take_back(&mut table)?;
+    let first = log.standing()[0];
+    println!("taken back to {}; what stands is entry {}, from {} to {}", table[2], first.index, first.old, first.new);
 
     // A drive in, a density out. They are two types, so that neither is written in the other's column.
     let half = Drive(32768);
