@@ -162,7 +162,7 @@ uint32_t bg_nudge(uint16_t *table, size_t table_len, size_t index, bg_density de
  * - As long as only these four calls change table, log and count, from a granted start or accept on: the table is the
  *   starting one with the standing nudges done in order, so that taking all of them back gives the starting table; the
  *   table is nondecreasing; and no call is refused with 17. The starting table is what the last granted start or accept
- *   left.
+ *   left. bg_start and bg_nudge know no log, so they are not among the four.
  */
 
 /* As bg_start, and empties the log. Refused: 1 where table_len is below 2 or above 65,536. */

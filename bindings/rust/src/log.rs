@@ -19,10 +19,12 @@ pub struct Record {
 
 /// The nudges of one sitting on a table, so that they can be taken back: at most [`PLACES`](Log::PLACES) of them.
 ///
-/// The table is lent at each call, and the log goes with that one table. As long as it is changed by this log's calls
-/// alone, from a granted [`start`](Log::start) or [`accept`](Log::accept) on, it is the starting table with the
-/// [`standing`](Log::standing) nudges done in order; taking all of them back gives the starting table again; it is
-/// nondecreasing; and no call is refused with [`BadLog`](Refusal::BadLog). A refused call changes neither table nor log.
+/// The table is lent at each call, and the log goes with that one table. As long as only this log's calls change the
+/// table, from a granted [`start`](Log::start) or [`accept`](Log::accept) on: the table is the starting one, which the
+/// last of these left, with the [`standing`](Log::standing) nudges done in order, so that taking all of them back gives
+/// the starting table; the table is nondecreasing; and no call is refused with [`BadLog`](Refusal::BadLog).
+///
+/// A refused call changes neither table nor log.
 ///
 /// ```
 /// use brassgroat::{Density, Log, Refusal};
