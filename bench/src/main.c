@@ -43,6 +43,8 @@ static const struct call CALLS[] = {
     {"write", EVERY_ENTRY, 16, 2, 6},
     {"accept", EVERY_ENTRY, 64, 10, 40},
     {"nudge", ONE, 64, 10, 40},
+    {"log-nudge", ONE, BG_LOG_PLACES, 10, 40},
+    {"take-back", ONE, BG_LOG_PLACES, 10, 40},
     {"float", ONE, QUESTIONS, 1000, COUNTED},
     {"linear", ONE, QUESTIONS, 1000, COUNTED},
     {"row-of-one", ONE, QUESTIONS, 1000, COUNTED},
@@ -150,6 +152,16 @@ static void check_least(struct work *work) {
     }
 }
 
+/* No other side has a nudge. What is measured of ours must be granted: a refusal may cost less. */
+static void check_granted(const char *name, struct work *work) {
+    const struct call call = {.name = name};
+    struct side sides[MOST_SIDES];
+    sides_of(&call, work, sides);
+    work->count = BG_LOG_PLACES;
+    if (sides[0].run(work) != BG_DONE)
+        give_up("refused", name, work->n);
+}
+
 /* Every side must see a curve that falls once, near its end. */
 static void check_fall(struct work *work) {
     const struct call accept = {"accept", EVERY_ENTRY, 1, 1, 1};
@@ -184,6 +196,9 @@ static void compare_lcms(struct work *work) {
 static void check(size_t n) {
     struct work work = prepared(n, QUESTIONS);
     bake_curve(&work);
+    check_granted("take-back", &work); /* before a nudge writes in the log */
+    check_granted("log-nudge", &work);
+    check_granted("nudge", &work);
     for (size_t i = 0; i < COUNT_OF(CALLS); i++)
         check_call(&CALLS[i], &work);
     check_least(&work);

@@ -108,6 +108,26 @@ static uint64_t nudge(const struct work *work) {
     return sum;
 }
 
+/* The same nudges, logged from an empty log on: each record is written as it stands there. */
+static uint64_t log_nudge(const struct work *work) {
+    uint64_t sum = 0;
+    size_t standing = 0;
+    for (size_t i = 0; i < work->count; i++) {
+        size_t at = work->asked[i] % work->n;
+        sum += bg_log_nudge(work->table, work->n, work->log, &standing, at, (bg_density){work->table[at]});
+    }
+    return sum;
+}
+
+/* From the full log down. A take-back writes no record, so that the next run finds the same log. */
+static uint64_t take_back(const struct work *work) {
+    uint64_t sum = 0;
+    size_t standing = BG_LOG_PLACES;
+    for (size_t i = 0; i < work->count; i++)
+        sum += bg_take_back(work->table, work->n, work->log, &standing);
+    return sum;
+}
+
 static uint64_t real(const struct work *work) {
     uint64_t sum = 0;
     for (size_t i = 0; i < work->count; i++)
@@ -137,6 +157,8 @@ const struct side our_sides[] = {
     {"write", "ours", true, write},
     {"accept", "ours", true, accept},
     {"nudge", "ours", true, nudge},
+    {"log-nudge", "ours", true, log_nudge},
+    {"take-back", "ours", true, take_back},
     {"float", "ours", true, real},
     {"linear", "ours", true, linear},
     {"row-of-one", "ours", true, row_of_one},

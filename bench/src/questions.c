@@ -54,6 +54,13 @@ static void draw_questions(struct work *work, size_t questions, uint64_t *state)
     }
 }
 
+static void fill_log(const struct work *work) {
+    for (size_t i = 0; i < BG_LOG_PLACES; i++) {
+        uint16_t at = (uint16_t)(work->asked[i] % work->n), entry = work->table[at];
+        work->log[i] = (bg_record){.new_entry = entry, .old_entry = entry, .index = at};
+    }
+}
+
 uint16_t same(const uint16_t *table, size_t n, uint16_t position) {
     (void)table;
     (void)n;
@@ -71,6 +78,7 @@ struct work work_of(size_t n, size_t questions) {
     work.asked_near = room(QUESTIONS * sizeof *work.asked_near);
     work.asked_f32 = room(QUESTIONS * sizeof *work.asked_f32);
     work.asked_f64 = room(QUESTIONS * sizeof *work.asked_f64);
+    work.log = room(BG_LOG_PLACES * sizeof *work.log);
     work.out = room(POSITIONS * sizeof *work.out);
     work.out_wide = room(QUESTIONS * sizeof *work.out_wide);
     work.out_tag = room(TAG_HEAD + 2 * n);
@@ -79,5 +87,6 @@ struct work work_of(size_t n, size_t questions) {
         work.floats[i] = (float)work.table[i] / 65535.0f;
     put_tag(work.tag, work.table, n);
     draw_questions(&work, questions, &state);
+    fill_log(&work);
     return work;
 }

@@ -2,6 +2,8 @@
 #ifndef WORK_H
 #define WORK_H
 
+#include "brassgroat.h"
+
 #include <stdbool.h>
 #include <stddef.h>
 #include <stdint.h>
@@ -19,6 +21,7 @@ struct work {
     uint16_t *asked_near;    /* positions that wander, each near the one before it, as along a row of a picture */
     float *asked_f32;        /* numbers from 0 to 1 */
     double *asked_f64;       /* the same */
+    bg_record *log;          /* a full log: the first questions as nudges of entries to what they are */
     uint16_t *out;           /* answers: a row, a baked, an inverted or a read table */
     uint32_t *out_wide;      /* answers: a row of inverses */
     uint8_t *out_tag;        /* answers: a written tag */
