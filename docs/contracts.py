@@ -15,8 +15,8 @@ FACE = "crates/brassgroat"
 CARRIED, PART = (f"{FACE}/specs/Carried.antt:{name}" for name in ("Carried", "PartCarried"))
 # What the face turns an answer into its places by, or an argument before it hands it on.
 TURNS = ("crates/plain_answers/specs/Answers.antt:", "crates/table/specs/Answers.antt:")
-# A record of one field: two of it are equal exactly if what they hold is.
-WRAP = "crates/curve/specs/Promises.antt:sittingOn"
+# What makes a record of its arguments: two of it are equal exactly if what they hold is.
+WRAPS = ("crates/curve/specs/Promises.antt:sittingOn", "crates/logged/specs/State.antt:loggedOn")
 # The equality that is meant.
 EQUAL = "mathlib.Core.Path:_≡_"
 # In a carried promise: the library's answer, which it is about.
@@ -390,9 +390,12 @@ def check_law(law, function, contract):
         if name in one and name in two and (one[name] != two[name] or {answer, ".exit"} & set(leaves(one[name]))):
             raise Weak(f"both its promises are of one `{name}`")
     ends = [(replaced(left, one), replaced(right, two)) for left, right in law.ends]
+    for left, right in list(ends):
+        if head(left) == head(right) in WRAPS and len(left) == len(right):
+            ends += zip(left[1:], right[1:])
     wanted = [("now", answer), (".ptr", answer)] if "-> &" in function.signature else [answer]
     for part in wanted + [("now", after) for after in later.values()]:
-        if (part, part) not in ends and ((WRAP, part), (WRAP, part)) not in ends:
+        if (part, part) not in ends:
             what = "the answers" if part in wanted else f"`{' and '.join(later)}`"
             raise Weak(f"it does not end in the equality of {what}")
 

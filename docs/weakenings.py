@@ -11,6 +11,7 @@ import contracts
 
 FACE, LOOKUP, LAWS = contracts.FACE, "crates/lookup/src/lib.rt", "crates/lookup/proofs/Promises.antt"
 LOOKUPS, INVERSES, TABLE = f"{FACE}/src/lookups.rt", f"{FACE}/src/inverses.rt", "crates/table/src/lib.rt"
+LOGGED = "crates/logged/src/lib.rt"
 # How the check begins what it says.
 OF_LOOKUP, OF_BAKE = "lut_interp_linear16: its contract: ", "bg_bake: its contract: "
 OF_FACE = "its law of one answer, `bg-passthrough-one`: it"
@@ -84,6 +85,16 @@ WEAKENINGS = [
     ("a door asks for something", OF_LOOKUP, lookup("C ⌝ } requires { ⌜ p ≡ p")),
     ("a contract leaves an argument out", OF_LOOKUP, (LOOKUP, r"(⌜ LookupPromise .*?\)\)) p", r"\1 0")),
     ("a contract leaves the later buffer out", OF_BAKE, (LOOKUPS, r"(fn bg_bake\b[^⌝]*)\.exit", r"\1.entry")),
+    (
+        "a contract leaves one of three later states out",
+        "log_nudge: its contract: ",
+        (LOGGED, r"(fn log_nudge\b[^⌝]*count) \.exit", r"\1 .entry"),
+    ),
+    (
+        "a contract is of another call's case",
+        "`logged::take_back`: the ladder's numbers are 1, 2:",
+        (LOGGED, r"LogPromise takeBack", "LogPromise accept"),
+    ),
     ("an equality is another", "within: its contract: ", (TABLE, r"mathlib\.Core\.Path(\.\{_≡_)", r"lib.Path\1")),
     (
         "a promise of that name is another",
@@ -108,6 +119,16 @@ WEAKENINGS = [
         "a law leaves the buffer out",
         "`row-one`: it does not end",
         ("crates/rows/proofs/Promises.antt", r"(pub row-one :.*?→ )\(([^()]*)\) × \([^()]*\)", r"\1\2"),
+    ),
+    (
+        "a law leaves the later state out",
+        "`log-one`: it does not end",
+        ("crates/logged/proofs/Promises.antt", r"(pub log-one :[^\n]*) × \(s′ ≡ s″\)", r"\1"),
+    ),
+    (
+        "a law has one of three buffers twice",
+        "`bg-log-nudge-one`: it does not end",
+        (f"{FACE}/proofs/One.antt", r"(bg_log_nudge\.Post first second) third", r"\1 second"),
     ),
     ("a law is over another promise", "`lookup-one`: it is about", law(r"([^\n]*)LookupPromise", r"\1OtherPromise")),
     (
