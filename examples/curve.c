@@ -43,7 +43,7 @@ int main(void)
 
     /* A curve may be worked on if no entry is below the one before it. The log beside it is empty from here on. */
     bg_record log[BG_LOG_PLACES];
-    size_t standing;
+    size_t standing = 0;
     must(bg_log_accept(table, n, log, &standing), "accepting the curve");
 
     /* The operator nudges the middle. A nudge past a neighbour is refused, and the curve stays in order. */
