@@ -8,6 +8,9 @@ use Rattle.logged.specs.Promises.{countAfter}
 use Rattle.logged.proofs.emptied.Statement.{statement}
 use Rattle.logged.proofs.emptied.Tie as tie
 
+returns : tie.Need-returns
+returns c = search needs
+
 returns-2 : tie.Need-returns-2
 returns-2 c =
     let a = c .before .before .before .args in
@@ -15,4 +18,4 @@ returns-2 c =
     (e, ap (λ (r : Done). countAfter r (now (a .count))) e)
 
 pub emptied-spec : {M : Type 1} → statement M
-emptied-spec = tie.close (tie.spec (λ c. search needs) (λ c. search needs) (λ c. search needs) returns-2)
+emptied-spec = tie.close (tie.spec (λ c. search needs) (λ c. search needs) returns returns-2)
