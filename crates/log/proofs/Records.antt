@@ -1,12 +1,12 @@
 -- A record says what it was made of, and when it goes with a table. Assumes nothing.
-use mathlib.Core.Path.{_≡_}
+use mathlib.Core.Path.{_≡_, refl}
 use mathlib.Core.Bool.{true, false}
-use mathlib.Core.List.{List}
+use mathlib.Core.List.{List, [], _∷_}
 use Prim.Native.Nat.{ℕ, _≤_, _<_}
 use native.Mathlib.Omega.{arith}
 use borrow.Author.Tests.{lt-ltb, le-ltb, eq-eqb, ne-eqb, ltb-true}
 use lib.ListN.{length, getD}
-use Rattle.table.specs.Order.{suits}
+use Rattle.table.specs.Order.{notBelowLeft, notAboveRight, suits}
 use Rattle.table.proofs.Choice.{both-left}
 use Rattle.log.specs.Records.{word, newOf, oldOf, indexOf, goesWith}
 
@@ -44,3 +44,23 @@ module _ (t : List ℕ) (w : ℕ) where
   pub goes-inside : goesWith t w ≡ true → indexOf w < length t
   unfolding goesWith
   goes-inside e = ltb-true _ _ (both-left _ _ e)
+
+-- Worked: between 10 and 30 an old entry of 31 does not fit, nor does one of 9; 30 and 10 do.
+between : List ℕ
+between = 10 ∷ 20 ∷ 30 ∷ []
+
+above-right : goesWith between (word 1 31 20) ≡ false
+unfolding goesWith notBelowLeft notAboveRight between
+above-right = refl
+
+below-left : goesWith between (word 1 9 20) ≡ false
+unfolding goesWith notBelowLeft notAboveRight between
+below-left = refl
+
+as-right : goesWith between (word 1 30 20) ≡ true
+unfolding goesWith notBelowLeft notAboveRight between
+as-right = refl
+
+as-left : goesWith between (word 1 10 20) ≡ true
+unfolding goesWith notBelowLeft notAboveRight between
+as-left = refl
