@@ -20,6 +20,7 @@ pub use lists::List;
 pub use lists::fill;
 pub use lists::goes_on;
 pub use lists::last_items;
+pub use lists::last_records;
 pub use lists::open_list;
 pub use lists::read_items;
 pub use numbers::Place;

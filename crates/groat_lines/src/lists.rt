@@ -1,4 +1,5 @@
-// Lists: `V`, `V*K` and `A:B`, parted by commas, or `-` for none.
+// Lists: `V`, `V*K` and `A:B`, or a log's records, parted by commas, or `-` for none.
+use crate::numbers::COLON;
 use crate::numbers::MINUS;
 use crate::numbers::Place;
 use crate::numbers::ReadSum;
@@ -26,8 +27,6 @@ pub type Codes = [u64; 65537];
 const COMMA: u16 = b',' as u16;
 
 const TIMES: u16 = b'*' as u16;
-
-const UP_TO: u16 = b':' as u16;
 
 // How far a list has been read.
 enum Stage {
@@ -165,12 +164,15 @@ fn read_end(s: State, io: &mut Streams, place: Place, from: u64) -> Opened {
     counted_up(after, place, from, end)
 }
 
-// The rest of an item after its first number.
+// The rest of an item after its first number. A record has none.
 fn after_first(s: State, io: &mut Streams, place: Place, first: u64) -> Opened {
+    if let Place::Record = place {
+        return closed(s, run(first, 0, 0));
+    }
     if s.now == TIMES {
         return read_times(advance(s, io), io, first);
     }
-    if s.now == UP_TO && is_decimal(place) {
+    if s.now == COLON && is_decimal(place) {
         return read_end(advance(s, io), io, place, first);
     }
     closed(s, run(first, 0, 0))
@@ -277,25 +279,36 @@ pub fn fill(
     }
 }
 
-// After a list that the program was to hold.
-fn counted(s: State) -> State {
-    if s.got > 65537 {
+// After a list of which the program was to hold so many items at most.
+fn counted(s: State, most: u64) -> State {
+    if s.got > most {
         return wrong(s, TOO_MANY_ITEMS);
     }
     s
 }
 
-// The next word of the line as a list, whose numbers' codes are put into a lent buffer.
-pub fn read_items(s: State, io: &mut Streams, place: Place, codes: &mut Codes) -> State {
+// The next word of the line as a list of at most so many items, whose codes are put into a lent buffer.
+fn read_at_most(s: State, io: &mut Streams, place: Place, codes: &mut Codes, most: u64) -> State {
     let opened = open_list(s, io);
     let here = opened.s;
     let list = opened.list;
-    let filled = fill(list, here, io, place, codes, 65538, false);
+    let room = std::num::wrapping_add_u64(most, 1);
+    let filled = fill(list, here, io, place, codes, room, false);
     let after = filled.s;
-    counted(after)
+    counted(after, most)
+}
+
+// The same with as many items as the buffer holds.
+pub fn read_items(s: State, io: &mut Streams, place: Place, codes: &mut Codes) -> State {
+    read_at_most(s, io, place, codes, 65537)
 }
 
 // The last word of the line as such a list.
 pub fn last_items(s: State, io: &mut Streams, place: Place, codes: &mut Codes) -> State {
     no_more_words(read_items(s, io, place, codes), io)
+}
+
+// The last word of the line as a log's records, at most so many.
+pub fn last_records(s: State, io: &mut Streams, codes: &mut Codes, most: u64) -> State {
+    no_more_words(read_at_most(s, io, Place::Record, codes, most), io)
 }

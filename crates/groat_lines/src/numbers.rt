@@ -1,4 +1,4 @@
-// Numbers: decimal ones of each place, and the bit patterns of floats.
+// Numbers: decimal ones of each place, records of three, and the bit patterns of floats.
 use crate::problems::BAD_NUMBER;
 use crate::problems::wrong;
 use crate::streams::State;
@@ -29,6 +29,8 @@ const LOWER_F: u16 = b'f' as u16;
 
 pub const MINUS: u16 = b'-' as u16;
 
+pub const COLON: u16 = b':' as u16;
+
 // What a number is for, which says how it is written and how large it may be.
 pub enum Place {
     // a position, a density, a table entry, an 8.8 number: 16 bits
@@ -37,6 +39,8 @@ pub enum Place {
     Any,
     // a raw 16.16 number: signed, 32 bits. Its code is 2^31 more
     Raw,
+    // a log's record, I:OLD:NEW, of 16 bits each. Its code is the word of 64 bits that a log has for it
+    Record,
     // the 8 hexadecimal digits of an f32
     Single,
     // the 16 of an f64
@@ -64,6 +68,10 @@ pub fn hex_value(now: u16) -> u64
         LOWER_A..=LOWER_F => (now - LOWER_A + 10) as u64,
         _ => 16,
     }
+}
+
+fn wrong_sum(s: State) -> ReadSum {
+    ReadSum { s, sum: Sum::Wrong }
 }
 
 // The decimal digits from here on, as many as there are.
@@ -99,6 +107,43 @@ fn read_signed(s: State, io: &mut Streams, minus: bool) -> ReadSum {
     }
 }
 
+// A record so far, and below it a number of 16 bits more.
+fn joined(upper: u64, read: ReadSum) -> ReadSum {
+    let after = read.s;
+    let sum = read.sum;
+    match sum {
+        Sum::Suits(lower) => ReadSum {
+            s: after,
+            sum: Sum::Suits((upper << 16) | lower),
+        },
+        Sum::OneAbove | Sum::Wrong => wrong_sum(after),
+    }
+}
+
+// The same, where that number is to be read, after a colon.
+fn read_after_colon(s: State, io: &mut Streams, upper: u64) -> ReadSum {
+    if s.now != COLON {
+        return wrong_sum(s);
+    }
+    joined(upper, read_unsigned(advance(s, io), io, 65535))
+}
+
+// The next number of a record, unless something was wrong before it.
+fn read_next(read: ReadSum, io: &mut Streams) -> ReadSum {
+    let after = read.s;
+    let sum = read.sum;
+    match sum {
+        Sum::Suits(upper) => read_after_colon(after, io, upper),
+        Sum::OneAbove | Sum::Wrong => wrong_sum(after),
+    }
+}
+
+fn read_record(s: State, io: &mut Streams) -> ReadSum {
+    let index = read_unsigned(s, io, 65535);
+    let old = read_next(index, io);
+    read_next(old, io)
+}
+
 fn exactly(value: u64, digits: u64, width: u64) -> Sum {
     if digits == width {
         return Sum::Suits(value);
@@ -127,14 +172,14 @@ pub fn largest(place: Place) -> u64 {
     match place {
         Place::Short => 65535,
         Place::Raw => 0xffff_ffff,
-        Place::Any | Place::Single | Place::Double => u64::MAX,
+        Place::Any | Place::Record | Place::Single | Place::Double => u64::MAX,
     }
 }
 
 pub fn is_decimal(place: Place) -> bool {
     match place {
         Place::Short | Place::Any | Place::Raw => true,
-        Place::Single | Place::Double => false,
+        Place::Record | Place::Single | Place::Double => false,
     }
 }
 
@@ -143,6 +188,7 @@ fn read_positive(s: State, io: &mut Streams, place: Place) -> ReadSum {
     match place {
         Place::Short | Place::Any => read_unsigned(s, io, largest(place)),
         Place::Raw => read_signed(s, io, false),
+        Place::Record => read_record(s, io),
         Place::Single => read_pattern(s, io, 8),
         Place::Double => read_pattern(s, io, 16),
     }
@@ -152,7 +198,7 @@ fn read_positive(s: State, io: &mut Streams, place: Place) -> ReadSum {
 pub fn read_negative(s: State, io: &mut Streams, place: Place) -> ReadSum {
     match place {
         Place::Raw => read_signed(s, io, true),
-        Place::Short | Place::Any | Place::Single | Place::Double => ReadSum { s, sum: Sum::Wrong },
+        Place::Short | Place::Any | Place::Record | Place::Single | Place::Double => wrong_sum(s),
     }
 }
 

@@ -34,6 +34,8 @@ pub struct State {
     pub table: usize,
     pub floats: usize,
     pub tag: usize,
+    // how many nudges stand in the kept log, by its own count: a damaged log's may be any number
+    pub standing: usize,
     // the next byte of the input, and how many there are
     at: u16,
     held: u16,
@@ -53,6 +55,7 @@ pub fn opened() -> State {
         table: 0,
         floats: 0,
         tag: 0,
+        standing: 0,
         at: 0,
         held: 0,
         waiting: 0,
