@@ -1,5 +1,5 @@
-// What the program keeps: a table, a list of floats and the bytes of a tag. Each stands in a buffer of its own, and
-// the state says how many of the buffer's first places it has.
+// What the program keeps: a table, a log, a list of floats and the bytes of a tag. Each stands in a buffer of its own,
+// and the state says how many of the buffer's first places it has.
 use groat_lines::State;
 use table::Done;
 
@@ -64,6 +64,12 @@ pub fn with_floats(s: State, n: usize) -> State {
 pub fn with_tag(s: State, n: usize) -> State {
     let mut after = s;
     after.tag = n;
+    after
+}
+
+pub fn with_standing(s: State, n: usize) -> State {
+    let mut after = s;
+    after.standing = n;
     after
 }
 

@@ -18,6 +18,7 @@ pub use kept::tag_after;
 pub use kept::values;
 pub use kept::values_mut;
 pub use kept::with_floats;
+pub use kept::with_standing;
 pub use kept::with_table;
 pub use kept::with_tag;
 use parametric::ParametricCurve;
@@ -61,7 +62,7 @@ pub fn put_comma(s: State, io: &mut Streams, place: usize) -> State {
 }
 
 // Where a list has no items.
-fn put_none(s: State, io: &mut Streams, n: usize) -> State {
+pub fn put_none(s: State, io: &mut Streams, n: usize) -> State {
     if n > 0 {
         return s;
     }
