@@ -2,6 +2,7 @@
 // answers each with a line. docs/GROAT.md is its language.
 use groat_answers::after_rows;
 use groat_answers::before_rows;
+use groat_curves::PLACES;
 use groat_lines::Codes;
 use groat_lines::INPUT_END;
 use groat_lines::State;
@@ -45,10 +46,11 @@ fn answer(
     io: &mut Streams,
     codes: &mut Codes,
     table: &mut [u16; 65537],
+    log: &mut [u64; PLACES],
     floats: &mut [f32; 65537],
     tag: &mut Tag,
 ) -> State {
-    let mut here = groat_curves::answer(before_rows(s, io), io, codes, table, floats);
+    let mut here = groat_curves::answer(before_rows(s, io), io, codes, table, log, floats);
     if here.met {
         return here;
     }
@@ -65,6 +67,7 @@ fn line(
     io: &mut Streams,
     codes: &mut Codes,
     table: &mut [u16; 65537],
+    log: &mut [u64; PLACES],
     floats: &mut [f32; 65537],
     tag: &mut Tag,
 ) -> State {
@@ -73,7 +76,7 @@ fn line(
         return turn(start, io);
     }
     let named = read_name(start, io);
-    let answered = answer(named, io, codes, table, floats, tag);
+    let answered = answer(named, io, codes, table, log, floats, tag);
     turn(put_end(answered, io), io)
 }
 
@@ -83,12 +86,21 @@ fn main() {
     let mut io = [0u8; 131072];
     let mut codes = [0u64; 65537];
     let mut table = [0u16; 65537];
+    let mut log = [0u64; PLACES];
     let mut floats = [0.0f32; 65537];
     let mut tag = [0u8; 131200];
     let mut s = advance(opened(), &mut io);
     let mut turns = u64::MAX;
     while turns > 0 && s.now != INPUT_END && !s.broken {
-        s = line(s, &mut io, &mut codes, &mut table, &mut floats, &mut tag);
+        s = line(
+            s,
+            &mut io,
+            &mut codes,
+            &mut table,
+            &mut log,
+            &mut floats,
+            &mut tag,
+        );
         turns -= 1;
     }
 }
