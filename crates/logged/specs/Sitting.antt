@@ -66,9 +66,9 @@ startingFrom t (turn ∷ turns) = startingFrom (pick (begins (turn .call) (turn 
 abbrev pub startingTable : Turn → List Turn → List ℕ
 startingTable opening turns = startingFrom (opening .after .table) turns
 
--- The nudges that stand, told by calls and answers alone, where ws stood before a call: a granted start or accept
--- clears them, a granted nudge adds its own at the end, a granted take-back takes the last, and a refused call changes
--- nothing.
+-- The nudges that stand after a call, told without a look at the log, where ws stood before it: a granted start or
+-- accept clears them, a granted nudge adds its own at the end, a granted take-back takes the last, and a refused call
+-- changes nothing.
 abbrev pub standsAfter : Logged → Call → Done → List ℕ → List ℕ
 standsAfter s call (Done.Refused why) ws = ws
 standsAfter s start Done.Yes ws = []
