@@ -11,11 +11,11 @@ use borrow.Author.Tests.{le-leb}
 use lib.ListN.{length, getD, set, length-set}
 use lib.Seq.{set-set, set-getD, getD-set-same, getD-set-other}
 use lib.Dec.{leb}
-use Rattle.table.specs.Order.{nondecreasing, SixteenBits, notBelowLeft, notAboveRight, suits}
+use Rattle.table.specs.Order.{nondecreasing, notBelowLeft, notAboveRight, suits}
 use Rattle.table.proofs.Choice.{below?}
-use Rattle.table.proofs.Order.{test-fact, set-test, set-keeps-bits, left-is, left-none, right-is, right-none}
+use Rattle.table.proofs.Order.{test-fact, set-test, left-is, left-none, right-is, right-none}
 use Rattle.log.specs.Records.{newOf, oldOf, indexOf, nudged, takenBack, allNudged, goesWith}
-use Rattle.log.proofs.Records.{new-narrow, goes-same}
+use Rattle.log.proofs.Records.{goes-same}
 
 -- w is the record of a nudge that may be granted at the table t
 pub record Grantable (t : List ℕ) (w : ℕ) : Type 0 where
@@ -45,23 +45,13 @@ unfolding allNudged EachGrantable
 each-less t [] w g = (tt, g .0)
 each-less t (v ∷ ws) w g = let l = each-less (nudged t v) ws w (g .1) in ((g .0, l .0), l .1)
 
--- What all of them keep.
+-- What all of them keep is the order.
 nudged-order : (t ws : List ℕ) → nondecreasing t ≡ true → EachGrantable t ws → nondecreasing (allNudged t ws) ≡ true
 unfolding allNudged EachGrantable
 nudged-order t [] r g = r
 nudged-order t (w ∷ ws) r g =
     let h = g .0 in
     nudged-order (nudged t w) ws (set-test t (indexOf w) (newOf w) (test-fact t r) (h .index) (h .fitting)) (g .1)
-
-nudged-bits : (t ws : List ℕ) → SixteenBits t → SixteenBits (allNudged t ws)
-unfolding allNudged
-nudged-bits t [] b = b
-nudged-bits t (w ∷ ws) b = nudged-bits (nudged t w) ws (set-keeps-bits t (indexOf w) (newOf w) b (new-narrow w))
-
-nudged-length : (t ws : List ℕ) → length (allNudged t ws) ≡ length t
-unfolding allNudged
-nudged-length t [] = refl
-nudged-length t (w ∷ ws) = nudged-length (nudged t w) ws ∙ length-set t (indexOf w) (newOf w)
 
 -- An entry's neighbours are the same whatever the entry is,
 left-same : (t : List ℕ) (i x y : ℕ) → notBelowLeft (set t i x) i y ≡ notBelowLeft t i y
@@ -115,28 +105,20 @@ taken-back t w g = set-set t (indexOf w) (newOf w) (oldOf w) ∙ rw (g .was) (se
 -- its turn.
 pub record Kept (o t ws : List ℕ) : Type 0 where
   order : nondecreasing o ≡ true
-  bits : SixteenBits o
   each : EachGrantable o ws
   pub comes : allNudged o ws ≡ t
 
-pub kept-none : {o : List ℕ} → nondecreasing o ≡ true → SixteenBits o → Kept o o []
+pub kept-none : {o : List ℕ} → nondecreasing o ≡ true → Kept o o []
 unfolding allNudged EachGrantable
-kept-none r b = record { order = r; bits = b; each = tt; comes = refl }
+kept-none r = record { order = r; each = tt; comes = refl }
 
 module _ {o t ws : List ℕ} (k : Kept o t ws) where
   pub kept-order : nondecreasing t ≡ true
   kept-order = subst (λ (l : List ℕ). nondecreasing l ≡ true) (k .comes) (nudged-order o ws (k .order) (k .each))
 
-  pub kept-bits : SixteenBits t
-  kept-bits = subst SixteenBits (k .comes) (nudged-bits o ws (k .bits))
-
-  pub kept-length : length t ≡ length o
-  kept-length = ap length (sym (k .comes)) ∙ nudged-length o ws
-
   pub kept-more : (w : ℕ) → Grantable t w → Kept o (nudged t w) (ws ++ (w ∷ []))
   kept-more w g = record {
     order = k .order;
-    bits = k .bits;
     each = each-more o ws w (k .each) (subst (λ (l : List ℕ). Grantable l w) (sym (k .comes)) g);
     comes = nudged-last o ws w ∙ ap (λ (l : List ℕ). nudged l w) (k .comes);
   }
@@ -150,7 +132,6 @@ module _ {o t : List ℕ} (ws : List ℕ) (w : ℕ) (k : Kept o t (ws ++ (w ∷ 
       let l = each-less o ws w (k .each) in
       record {
         order = k .order;
-        bits = k .bits;
         each = l .0;
         comes = sym (taken-back (allNudged o ws) w (l .1)) ∙ ap (λ (t : List ℕ). takenBack t w) before;
       }

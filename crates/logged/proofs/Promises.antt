@@ -4,7 +4,6 @@
 -- without a log they do with one, and when 15 and 16 are given. Assumes nothing.
 use mathlib.Core.Path.{_≡_, _∙_, refl, sym, ap}
 use mathlib.Core.Logic.{_↔_}
-use mathlib.Core.Bool.{Bool, true, false}
 use Prim.Native.Nat.{ℕ, _-_, _≤_, _<_}
 use native.Mathlib.Nat.{le-antisymm}
 use native.Mathlib.Omega.{arith}
@@ -13,13 +12,13 @@ use lib.ListN.{length}
 use lib.Dec.{leb, ltb}
 use Rattle.table.specs.Sizes.{sized}
 use Rattle.table.specs.Order.{Passed, nondecreasing, suits}
-use Rattle.table.specs.Refusals.{Verdict, granted, refused, rung, andThen, numberOf, numberIn, ifGranted}
+use Rattle.table.specs.Refusals.{Verdict, granted, refused, rung, andThen, numberIn, ifGranted}
 use Rattle.table.specs.Answers.{numberOfDone}
 use Rattle.table.specs.declared.Density.{Density}
 use Rattle.table.specs.declared.Done.{Done}
 use Rattle.table.specs.declared.Refusal.{Refusal}
 use Rattle.table.specs.declared.Refusal.the-variants.{TableLength, NotNondecreasing, IndexBeyond, OutsideNeighbours, LogFull, NothingToTakeBack, BadLog}
-use Rattle.table.proofs.Refusals.{same-verdict, rung-granted}
+use Rattle.table.proofs.Refusals.{same-verdict, rung-granted, rung-holds, rung-fails, rung-joined}
 use Rattle.table.proofs.Answers.{same-done, doneBy, done-number, done-is, done-granted, done-refused}
 use Rattle.curve.specs.Promises.{sittingOn, StartPromise, AcceptPromise}
 use Rattle.nudge.specs.Promises.{nudgeVerdict, NudgePromise}
@@ -46,23 +45,6 @@ module _ {call : Call} {s : Logged} where
 
   pub log-refused : {why : Refusal} {s′ : Logged} → LogPromise call s (Done.Refused why) s′ → s′ ≡ s
   log-refused {why} a = a .after ∙ simp (done-refused (callVerdict call s) why (a .number))
-
--- Ladders: a rung that is not the one that refused holds,
-rung-holds : (test : Bool) (why : Refusal) (rest : Verdict) (w : Refusal) →
-    rung test why rest ≡ refused w → (numberOf why ≡ numberOf w → ⊥) → (test ≡ true) × (rest ≡ refused w)
-rung-holds true why rest w e n = (refl, e)
-rung-holds false why rest w e n = absurd (n (ap numberIn e))
-
--- the last one that can have refused does not,
-rung-fails : (test : Bool) (why w : Refusal) → rung test why granted ≡ refused w → test ≡ false
-rung-fails true why w e = let z : _≡_ {A = ℕ} 0 1 = cc in absurd (omega arith)
-rung-fails false why w e = refl
-
--- and one ladder before another is one ladder.
-joined : (test : Bool) (why : Refusal) (rest last : Verdict) →
-    rung test why (andThen rest last) ≡ andThen (rung test why rest) last
-joined true why rest last = refl
-joined false why rest last = refl
 
 -- What the calls do without a log they do with one. Start and accept always,
 pub start-same : {s s′ : Logged} {r : Done} → LogPromise start s r s′ →
@@ -98,10 +80,10 @@ module _ (s : Logged) (i : ℕ) (v : Density) where
       (ap (λ (w : Verdict). rung (sized (length (s .table))) TableLength w)
       (ap (λ (w : Verdict). rung (ltb i (length (s .table))) IndexBeyond w)
       (ap (λ (w : Verdict). rung (nondecreasing (s .table)) NotNondecreasing w)
-      (joined (suits (s .table) i (v .0)) OutsideNeighbours granted last)
-      ∙ joined (nondecreasing (s .table)) NotNondecreasing fits last)
-      ∙ joined (ltb i (length (s .table))) IndexBeyond order last)
-      ∙ joined (sized (length (s .table))) TableLength index last)
+      (rung-joined (suits (s .table) i (v .0)) OutsideNeighbours granted last)
+      ∙ rung-joined (nondecreasing (s .table)) NotNondecreasing fits last)
+      ∙ rung-joined (ltb i (length (s .table))) IndexBeyond order last)
+      ∙ rung-joined (sized (length (s .table))) TableLength index last)
 
   -- So with room it is the nudge without a log.
   pub nudge-same : {r : Done} {s′ : Logged} → s .count < places → LogPromise (nudge i v) s r s′ →

@@ -3,7 +3,7 @@
 -- accept begins one, and from there every list of calls is one. Assumes nothing.
 use mathlib.Core.Path.{_≡_, _∙_, refl, sym, ap, subst}
 use mathlib.Core.Logic.{_↔_, ⊎-elim}
-use mathlib.Core.Bool.{Bool, true, false}
+use mathlib.Core.Bool.{true}
 use mathlib.Core.List.{List, [], _∷_, _++_}
 use Prim.Native.Nat.{ℕ, suc, _+_, _-_, _≤_, _<_, zero-le}
 use native.Mathlib.Numerals.{add-one}
@@ -16,15 +16,15 @@ use lib.Dec.{ltb}
 use Rattle.table.specs.Choice.{pick}
 use Rattle.table.specs.Sizes.{sized, spanned}
 use Rattle.table.specs.Order.{nondecreasing, suits}
-use Rattle.table.specs.Refusals.{Verdict, granted, rung, numberOf, numberIn, ifGranted}
+use Rattle.table.specs.Refusals.{granted, numberIn, ifGranted}
 use Rattle.table.specs.Answers.{numberOfDone}
 use Rattle.table.specs.Turns.{end}
 use Rattle.table.specs.declared.Density.{Density}
 use Rattle.table.specs.declared.Done.{Done}
-use Rattle.table.specs.declared.Refusal.{Refusal}
 use Rattle.table.specs.declared.Refusal.the-variants.{TableLength, NotNondecreasing, IndexBeyond, OutsideNeighbours, LogFull, NothingToTakeBack}
 use Rattle.table.proofs.Choice.{never}
 use Rattle.table.proofs.Sizes.{within-low, within-high, is-within}
+use Rattle.table.proofs.Refusals.{rung-other}
 use Rattle.table.proofs.Answers.{same-done, doneBy}
 use Rattle.table.proofs.Order.{test-fact, fact-test, set-keeps-bits}
 use Rattle.table.proofs.Fill.{length-tabulated}
@@ -75,7 +75,7 @@ held-open start Done.Yes s s′ t o a =
     let h : spanned n ≡ true = start-granted (start-same (a .1)) .0 in
     subst (λ (q : Logged). Held n (q .table) [] q) (sym (log-granted (a .1) .1))
     (record {
-      kept = kept-none (fact-test (rampOf n) (ramp-order n h)) (ramp-bits n h);
+      kept = kept-none (fact-test (rampOf n) (ramp-order n h));
       log-holds = refl;
       few = zero-le;
       types = record { bits = ramp-bits n h; room = t .room };
@@ -86,7 +86,7 @@ held-open accept Done.Yes s s′ t o a =
     let g = accept-granted (accept-same (a .1)) in
     subst (λ (q : Logged). Held (length (s .table)) (q .table) [] q) (sym (log-granted (a .1) .1))
     (record {
-      kept = kept-none (g .1) (t .bits);
+      kept = kept-none (g .1);
       log-holds = refl;
       few = zero-le;
       types = record { bits = t .bits; room = t .room };
@@ -123,19 +123,18 @@ module _ {n : ℕ} {o ws : List ℕ} {s : Logged} (h : Held n o ws s) where
 
     held-nudge : Held n o (ws ++ (written ∷ [])) (leaves (nudge i v) s)
     held-nudge =
-        let w = word i (getD (s .table) i 0) (v .0) in
         let room = nudge-found s i v g .1 in
         let inside : s .count < length (s .log) = omega (arith, h .types .room) in
         record {
-          kept = subst (λ (t : List ℕ). Kept o t (ws ++ (w ∷ []))) does (kept-more (h .kept) w may);
+          kept = subst (λ (t : List ℕ). Kept o t (ws ++ (written ∷ []))) does (kept-more (h .kept) written may);
           log-holds =
-              ap (λ (k : ℕ). take k (set (s .log) (s .count) w)) (add-one (s .count))
-              ∙ take-suc-set (s .log) (s .count) w inside
-              ∙ ap (λ (l : List ℕ). l ++ (w ∷ [])) (h .log-holds);
+              ap (λ (k : ℕ). take k (set (s .log) (s .count) written)) (add-one (s .count))
+              ∙ take-suc-set (s .log) (s .count) written inside
+              ∙ ap (λ (l : List ℕ). l ++ (written ∷ [])) (h .log-holds);
           few = omega arith;
           types = record {
             bits = set-keeps-bits (s .table) i (v .0) (h .types .bits) narrow;
-            room = length-set (s .log) (s .count) w ∙ h .types .room;
+            room = length-set (s .log) (s .count) written ∙ h .types .room;
           };
           size = rw length-set (h .size);
           same-length = length-set (s .table) i (v .0) ∙ h .same-length;
@@ -189,13 +188,6 @@ held-sitting {lent} {opening} turns w =
     held-run turns
     (held-open (opening .call) (opening .answer) lent (opening .after) (w .types) (w .opened) (w .run .0)) (w .run .1)
 
--- A ladder that has no rung of a number does not answer it.
-module _ {n : ℕ} where
-  no-rung : (test : Bool) (why : Refusal) (rest : Verdict) → (numberOf why ≡ n → ⊥) → (numberIn rest ≡ n → ⊥) →
-      numberIn (rung test why rest) ≡ n → ⊥
-  no-rung true why rest a b e = b e
-  no-rung false why rest a b e = a e
-
 -- What that tells of the next call.
 module _ {n : ℕ} {o ws : List ℕ} {s : Logged} (h : Held n o ws s) where
   last-goes : 0 < s .count → goesWith (s .table) (lastStanding s) ≡ true
@@ -215,22 +207,22 @@ module _ {n : ℕ} {o ws : List ℕ} {s : Logged} (h : Held n o ws s) where
   never-17 call r s′ a e = go call (sym (a .1 .number) ∙ e)
     where
       go : (call : Call) → numberIn (callVerdict call s) ≡ 17 → ⊥
-      go start = no-rung (spanned (length (s .table))) TableLength granted (λ q. omega arith) (λ q. omega arith)
+      go start = rung-other (spanned (length (s .table))) TableLength granted (λ q. omega arith) (λ q. omega arith)
       go accept =
-          no-rung (sized (length (s .table))) TableLength _ (λ q. omega arith)
-          (no-rung (nondecreasing (s .table)) NotNondecreasing granted (λ q. omega arith) (λ q. omega arith))
+          rung-other (sized (length (s .table))) TableLength _ (λ q. omega arith)
+          (rung-other (nondecreasing (s .table)) NotNondecreasing granted (λ q. omega arith) (λ q. omega arith))
       go (nudge i v) =
-          no-rung (sized (length (s .table))) TableLength _ (λ q. omega arith)
+          rung-other (sized (length (s .table))) TableLength _ (λ q. omega arith)
           (simp (le-leb _ _ (h .few))
-          (no-rung (ltb i (length (s .table))) IndexBeyond _ (λ q. omega arith)
-          (no-rung (nondecreasing (s .table)) NotNondecreasing _ (λ q. omega arith)
-          (no-rung (suits (s .table) i (v .0)) OutsideNeighbours _ (λ q. omega arith)
-          (no-rung (ltb (s .count) places) LogFull granted (λ q. omega arith) (λ q. omega arith))))))
+          (rung-other (ltb i (length (s .table))) IndexBeyond _ (λ q. omega arith)
+          (rung-other (nondecreasing (s .table)) NotNondecreasing _ (λ q. omega arith)
+          (rung-other (suits (s .table) i (v .0)) OutsideNeighbours _ (λ q. omega arith)
+          (rung-other (ltb (s .count) places) LogFull granted (λ q. omega arith) (λ q. omega arith))))))
       go takeBack =
-          no-rung (sized (length (s .table))) TableLength _ (λ q. omega arith)
-          (no-rung (nondecreasing (s .table)) NotNondecreasing _ (λ q. omega arith)
+          rung-other (sized (length (s .table))) TableLength _ (λ q. omega arith)
+          (rung-other (nondecreasing (s .table)) NotNondecreasing _ (λ q. omega arith)
           (rw sound
-          (no-rung (ltb 0 (s .count)) NothingToTakeBack granted (λ q. omega arith) (λ q. omega arith))))
+          (rung-other (ltb 0 (s .count)) NothingToTakeBack granted (λ q. omega arith) (λ q. omega arith))))
 
   back-granted : (r : Done) (s′ : Logged) → Step s takeBack r s′ → 0 < s .count → r ≡ Done.Yes
   back-granted r s′ a some =

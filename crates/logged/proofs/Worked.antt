@@ -8,6 +8,7 @@ use lib.Dec.{lit<}
 use Rattle.table.specs.Sizes.{within}
 use Rattle.table.specs.Order.{SixteenBits, notBelowLeft, notAboveRight}
 use Rattle.table.specs.Fill.{tabulated}
+use Rattle.table.specs.Turns.{end}
 use Rattle.table.specs.declared.Density.{Density}
 use Rattle.table.specs.declared.Done.{Done}
 use Rattle.table.specs.declared.Refusal.{Refusal}
@@ -16,8 +17,9 @@ use Rattle.curve.specs.Ramp.{ramp}
 use Rattle.log.specs.Records.{word, goesWith}
 use Rattle.logged.specs.State.{Logged, loggedOn, Lent}
 use Rattle.logged.specs.Promises.{Call, start, accept, nudge, takeBack, LogPromise}
-use Rattle.logged.specs.Sitting.{Turn, WholeSitting, ended, standingNudges, Obeys}
-use Rattle.logged.proofs.Sitting.{log-demand, accept-begins, turnsOf, every-list-goes}
+use Rattle.logged.specs.Sitting.{Turn, WholeSitting, ended, standingNudges, Obeys, AllGranted}
+use Rattle.logged.proofs.Sitting.{log-demand, all-back, accept-begins, turnsOf, every-list-goes}
+use Rattle.logged.proofs.Promises.{log-some}
 
 density : ℕ → Density
 density n = record { 0 = n }
@@ -178,3 +180,13 @@ stands = refl
 obeys : Obeys (loggedOn bent blank 64) bent (word 1 100 200 ∷ []) (ended opened (turnsOf (loggedOn bent blank 0) calls))
 unfolding within notBelowLeft notAboveRight goesWith bent calls opened density blank tabulated
 obeys = log-demand (loggedOn bent blank 64) opened (turnsOf (loggedOn bent blank 0) calls) sitting
+
+-- One more take-back is granted, and gives the accepted table back.
+back : List Turn
+back = turnsOf (ended opened (turnsOf (loggedOn bent blank 0) calls)) (takeBack ∷ [])
+
+all-taken-back : AllGranted back × (end (ended opened (turnsOf (loggedOn bent blank 0) calls)) back .table ≡ bent)
+unfolding within notBelowLeft notAboveRight goesWith bent calls opened density blank tabulated back
+all-taken-back =
+    all-back (loggedOn bent blank 64) opened (turnsOf (loggedOn bent blank 0) calls) sitting back
+    ((tt, log-some takeBack (ended opened (turnsOf (loggedOn bent blank 0) calls))), tt) (refl, tt) refl

@@ -6,7 +6,7 @@ use mathlib.Core.Bool.{Bool, true}
 use lib.ListN.{length, getD, set}
 use lib.Dec.{leb, ltb}
 use Rattle.table.specs.Choice.{pick, both}
-use Rattle.table.specs.Sizes.{sized}
+use Rattle.table.specs.Sizes.{within}
 use Rattle.table.specs.Order.{nondecreasing, suits}
 use Rattle.table.specs.Refusals.{Verdict, granted, rung, numberIn, ifGranted}
 use Rattle.table.specs.Answers.{numberOfDone}
@@ -14,7 +14,6 @@ use Rattle.table.specs.declared.Density.{Density}
 use Rattle.table.specs.declared.Done.{Done}
 use Rattle.table.specs.declared.Refusal.the-variants.{TableLength, NotNondecreasing, IndexBeyond, OutsideNeighbours, LogFull, NothingToTakeBack, BadLog}
 use Rattle.curve.specs.Ramp.{rampOf}
-use Rattle.curve.specs.Promises.{sittingOn, startVerdict, acceptVerdict}
 use Rattle.log.specs.Records.{places, word, takenBack, goesWith}
 use Rattle.logged.specs.State.{Logged, loggedOn, lastStanding}
 
@@ -32,25 +31,33 @@ soundLog s =
     both (leb (s .count) places)
     (pick (ltb 0 (s .count)) (goesWith (s .table) (lastStanding s)) true)
 
--- Start and accept are refused as they are without a log: 1; and 1, 2. A nudge: 1, 17, 3, 2, 4, 15. A take-back: 1, 2,
--- 17, 16.
-abbrev pub callVerdict : Call → Logged → Verdict
-callVerdict start s = startVerdict (sittingOn (s .table))
-callVerdict accept s = acceptVerdict (sittingOn (s .table))
-callVerdict (nudge i v) s =
-    rung (sized (length (s .table))) TableLength
-    (rung (leb (s .count) places) BadLog
+-- the fewest entries that a table must have: as without a log
+abbrev pub fewest : Call → ℕ
+fewest start = 2
+fewest accept = 1
+fewest (nudge i v) = 1
+fewest takeBack = 1
+
+-- The tests after that of the length: accept 2; nudge 17, 3, 2, 4, 15; take-back 2, 17, 16.
+abbrev pub laterVerdict : Call → Logged → Verdict
+laterVerdict start s = granted
+laterVerdict accept s = rung (nondecreasing (s .table)) NotNondecreasing granted
+laterVerdict (nudge i v) s =
+    rung (leb (s .count) places) BadLog
     (rung (ltb i (length (s .table))) IndexBeyond
     (rung (nondecreasing (s .table)) NotNondecreasing
     (rung (suits (s .table) i (v .0)) OutsideNeighbours
     (rung (ltb (s .count) places) LogFull
-    granted)))))
-callVerdict takeBack s =
-    rung (sized (length (s .table))) TableLength
-    (rung (nondecreasing (s .table)) NotNondecreasing
+    granted))))
+laterVerdict takeBack s =
+    rung (nondecreasing (s .table)) NotNondecreasing
     (rung (soundLog s) BadLog
     (rung (ltb 0 (s .count)) NothingToTakeBack
-    granted)))
+    granted))
+
+-- All of them, 1 first.
+abbrev pub callVerdict : Call → Logged → Verdict
+callVerdict call s = rung (within (fewest call) 65536 (length (s .table))) TableLength (laterVerdict call s)
 
 -- What a granted call leaves. A start makes the straight curve, an accept leaves the table, and both empty the log. A
 -- nudge sets its entry and writes one word, at the count, and one more stands. A take-back sets the last one's entry

@@ -6,7 +6,7 @@ use Prim.Native.Nat.{ℕ, _-_, _<_}
 use native.Mathlib.Omega.{arith}
 use lib.ListN.{getD}
 use lib.Dec.{lit<}
-use Rattle.table.specs.Refusals.{numberOf, Verdict, granted, refused, rung, numberIn}
+use Rattle.table.specs.Refusals.{numberOf, Verdict, granted, refused, rung, andThen, numberIn}
 use Rattle.table.specs.declared.Refusal.{Refusal}
 use Rattle.table.specs.declared.Refusal.the-variants.{TableLength, NotNondecreasing, IndexBeyond, OutsideNeighbours, AboveLast, OutputLength, ParameterCount, TagLength, WrongSignature, ReservedNotZero, FunctionType, OutsideRange, OutsideUnit, LogFull, NothingToTakeBack, BadLog}
 
@@ -88,3 +88,26 @@ same-verdict (refused a) (refused b) e = ap refused (same-refusal a b e)
 pub rung-granted : (test : Bool) (why : Refusal) (rest : Verdict) → rung test why rest ≡ granted → (test ≡ true) × (rest ≡ granted)
 rung-granted true why rest e = (refl, e)
 rung-granted false why rest e = let z : _≡_ {A = ℕ} 0 1 = cc in absurd (omega arith)
+
+-- In a ladder that refuses, a rung of another number holds,
+pub rung-holds : (test : Bool) (why : Refusal) (rest : Verdict) (w : Refusal) → rung test why rest ≡ refused w →
+    (numberOf why ≡ numberOf w → ⊥) → (test ≡ true) × (rest ≡ refused w)
+rung-holds true why rest w e n = (refl, e)
+rung-holds false why rest w e n = absurd (n (ap numberIn e))
+
+-- and the last rung, where no other can have refused, does not;
+pub rung-fails : (test : Bool) (why w : Refusal) → rung test why granted ≡ refused w → test ≡ false
+rung-fails true why w e = let z : _≡_ {A = ℕ} 0 1 = cc in absurd (omega arith)
+rung-fails false why w e = refl
+
+-- a ladder that has no rung of a number does not answer it;
+pub rung-other : {n : ℕ} (test : Bool) (why : Refusal) (rest : Verdict) → (numberOf why ≡ n → ⊥) →
+    (numberIn rest ≡ n → ⊥) → numberIn (rung test why rest) ≡ n → ⊥
+rung-other true why rest a b e = b e
+rung-other false why rest a b e = a e
+
+-- and one ladder before another is one ladder.
+pub rung-joined : (test : Bool) (why : Refusal) (rest last : Verdict) →
+    rung test why (andThen rest last) ≡ andThen (rung test why rest) last
+rung-joined true why rest last = refl
+rung-joined false why rest last = refl
