@@ -1,5 +1,5 @@
 /*
- * Brassgroat: the tone curve part of a photo lab's grey box. The face for C and C++.
+ * Brassgroat: the tone curve part of a photo lab's grey box. The face for C and C++, of 2011 or later.
  *
  * Every call is proved to keep its promise (crates/brassgroat, and the crates that the headings name). Link
  * target/staticlib/libbrassgroat.a, which `rt staticlib brassgroat` writes, for x86-64 Linux; it needs no other library.
@@ -10,10 +10,10 @@
  *   refused answer has 0 in every other place, and a refused call has changed no buffer. Where several refusals apply,
  *   the one that is listed first at the call is given.
  * - A buffer is a pointer and a count of its ELEMENTS, not bytes. The pointer must be aligned for its type and good for
- *   that many elements; it may be null only where the count is 0. A log always has BG_LOG_PLACES records, and no count
- *   of its elements beside it. An output buffer must not overlap another buffer of the same call; buffers that are only
- *   read may overlap each other. This much C's caller must see to, and the environment of floats: nothing else can go
- *   wrong.
+ *   that many elements; it may be null only where the count is 0. A log is always BG_LOG_PLACES records; the
+ *   `count` beside it is one number, which says how many nudges stand, not how long the log is. An output buffer must
+ *   not overlap another buffer of the same call; buffers that are only read may overlap each other. This much C's
+ *   caller must see to, and the environment of floats: nothing else can go wrong.
  * - It keeps no state, allocates nothing, and writes to its output buffers alone. Threads may call it at will, as long as no buffer that
  *   one call writes is used by another.
  * - A NaN among the answers may have any NaN's bits.
@@ -42,7 +42,8 @@ extern "C" {
 
 /*
  * The version of this header: 10,000 times its first number, 100 times its second, and its third. An archive of another
- * version may have other structs, so a program asks first whether bg_version() is BG_VERSION.
+ * version may have other structs, or logs of another length, so a program asks first whether bg_version() is
+ * BG_VERSION.
  */
 #define BG_VERSION 300
 
@@ -64,7 +65,7 @@ enum bg_refusal {
     BG_OUTSIDE_UNIT = 13,       /* the input of bg_lut_interp_linear is a NaN, below 0 or above 1 */
     BG_LOG_FULL = 15,           /* BG_LOG_PLACES nudges stand in the log */
     BG_NOTHING_TO_TAKE_BACK = 16, /* no nudge stands in the log */
-    BG_BAD_LOG = 17             /* the count is above BG_LOG_PLACES, or the last record does not go with the table */
+    BG_BAD_LOG = 17             /* the count is above BG_LOG_PLACES, or the nudge to take back does not go with the table */
 };
 
 /* A position, and a sample. */
@@ -155,10 +156,10 @@ uint32_t bg_nudge(uint16_t *table, size_t table_len, size_t index, bg_density de
  *
  * - `log` must be good for BG_LOG_PLACES records and `count` for one number in every call, refused ones as well. Table,
  *   log and count must not overlap each other.
- * - A granted start or accept empties the log, whatever it and the count held: before them a fresh log needs no
- *   clearing.
+ * - A granted start or accept empties the log, whatever it and the count held, and reads neither: before them a fresh
+ *   log needs no clearing. A refused one leaves both as they were, cleared or not.
  * - A refused call changes neither table nor log nor count. A granted nudge writes one record, the one at the count;
- *   the other calls write no record.
+ *   the other calls change no record. They take the log for writing all the same, as later versions may move records.
  * - As long as only these four calls change table, log and count, from a granted start or accept on: the table is the
  *   starting one with the standing nudges done in order, so that taking all of them back gives the starting table; the
  *   table is nondecreasing; and no call is refused with 17. The starting table is what the last granted start or accept

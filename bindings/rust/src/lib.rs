@@ -57,7 +57,7 @@
 //!
 //! `rt staticlib brassgroat`, run in the project's root, proves the library and writes target/staticlib/libbrassgroat.a, for x86-64 Linux. The build
 //! finds it there, or in the folder that the environment variable `BRASSGROAT_LIB_DIR` names. An archive that was not made with this crate may have other
-//! structs: compare [`version`] with [`VERSION`] first.
+//! structs, or logs of another length: compare [`version`] with [`VERSION`] first.
 //!
 //! # The floating-point environment
 //!

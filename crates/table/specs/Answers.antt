@@ -1,5 +1,5 @@
--- The documents' number and value for each case of an answer: a granted one has number 0, and a refused one has 0 in every other place.
--- Assumes nothing.
+-- The documents' number and value for each case of an answer: a granted one has number 0, and a refused one has 0 in
+-- every other place. Assumes nothing.
 use Prim.Native.Nat.{ℕ}
 use Rattle.table.specs.Refusals.{numberOf}
 use Rattle.table.specs.declared.Done.{Done}

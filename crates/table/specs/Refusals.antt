@@ -1,4 +1,5 @@
--- The documents' refusals: the number of each, and the ladder of tests by which a call is granted or refused. Assumes nothing.
+-- The documents' refusals: the number of each, and the ladder of tests by which a call is granted or refused. Assumes
+-- nothing.
 use Prim.Native.Nat.{ℕ}
 use mathlib.Core.Bool.{Bool, true, false}
 use Rattle.table.specs.declared.Refusal.{Refusal}
