@@ -65,7 +65,7 @@ enum bg_refusal {
     BG_OUTSIDE_UNIT = 13,       /* the input of bg_lut_interp_linear is a NaN, below 0 or above 1 */
     BG_LOG_FULL = 15,           /* BG_LOG_PLACES nudges stand in the log */
     BG_NOTHING_TO_TAKE_BACK = 16, /* no nudge stands in the log */
-    BG_BAD_LOG = 17             /* the count is above BG_LOG_PLACES, or the nudge to take back does not go with the table */
+    BG_BAD_LOG = 17             /* the count is above BG_LOG_PLACES, or the nudge to take back is not this table's */
 };
 
 /* A position, and a sample. */
