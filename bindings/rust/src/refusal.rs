@@ -135,7 +135,7 @@ impl fmt::Display for Refusal {
             Refusal::OutsideUnit => "the input is a NaN, below 0 or above 1: bring it into that range first",
             Refusal::LogFull => "the log is full: take a nudge back, or start or accept anew, which empties it",
             Refusal::NothingToTakeBack => "no nudge stands in the log: there is nothing to take back",
-            Refusal::BadLog => "the log's last nudge does not go with this table: lend the one it was made on, or accept this one anew",
+            Refusal::BadLog => "the log's last nudge does not go with this table: lend its own, or accept this one",
             Refusal::Unnamed(number) => return write!(f, "refused with {number}, which this version has no name for: see the archive's own header"),
         })
     }
