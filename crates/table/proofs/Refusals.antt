@@ -8,7 +8,7 @@ use lib.ListN.{getD}
 use lib.Dec.{lit<}
 use Rattle.table.specs.Refusals.{numberOf, Verdict, granted, refused, rung, andThen, numberIn}
 use Rattle.table.specs.declared.Refusal.{Refusal}
-use Rattle.table.specs.declared.Refusal.the-variants.{TableLength, NotNondecreasing, IndexBeyond, OutsideNeighbours, AboveLast, OutputLength, ParameterCount, TagLength, WrongSignature, ReservedNotZero, FunctionType, OutsideRange, OutsideUnit, LogFull, NothingToTakeBack, BadLog}
+use Rattle.table.specs.declared.Refusal.the-variants.{TableLength, NotNondecreasing, IndexBeyond, OutsideNeighbours, AboveLast, OutputLength, ParameterCount, TagLength, WrongSignature, ReservedNotZero, FunctionType, OutsideRange, OutsideUnit, LogFull, NothingToTakeBack, BadLog, Exponent}
 
 -- by their numbers, from 1 on; none has the number 14, so any may stand in its place
 refusals : List Refusal
@@ -30,6 +30,7 @@ refusals =
     ∷ LogFull
     ∷ NothingToTakeBack
     ∷ BadLog
+    ∷ Exponent
     ∷ []
 
 -- the refusal of a number
@@ -54,6 +55,7 @@ named-number OutsideUnit = refl
 named-number LogFull = refl
 named-number NothingToTakeBack = refl
 named-number BadLog = refl
+named-number Exponent = refl
 
 -- no two refusals have one number
 pub same-refusal : (a b : Refusal) → numberOf a ≡ numberOf b → a ≡ b
@@ -77,6 +79,7 @@ number-above OutsideUnit = lit< tt
 number-above LogFull = lit< tt
 number-above NothingToTakeBack = lit< tt
 number-above BadLog = lit< tt
+number-above Exponent = lit< tt
 
 pub same-verdict : (v w : Verdict) → numberIn v ≡ numberIn w → v ≡ w
 same-verdict granted granted e = refl

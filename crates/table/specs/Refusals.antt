@@ -3,7 +3,7 @@
 use Prim.Native.Nat.{ℕ}
 use mathlib.Core.Bool.{Bool, true, false}
 use Rattle.table.specs.declared.Refusal.{Refusal}
-use Rattle.table.specs.declared.Refusal.the-variants.{TableLength, NotNondecreasing, IndexBeyond, OutsideNeighbours, AboveLast, OutputLength, ParameterCount, TagLength, WrongSignature, ReservedNotZero, FunctionType, OutsideRange, OutsideUnit, LogFull, NothingToTakeBack, BadLog}
+use Rattle.table.specs.declared.Refusal.the-variants.{TableLength, NotNondecreasing, IndexBeyond, OutsideNeighbours, AboveLast, OutputLength, ParameterCount, TagLength, WrongSignature, ReservedNotZero, FunctionType, OutsideRange, OutsideUnit, LogFull, NothingToTakeBack, BadLog, Exponent}
 
 -- the number of each refusal, row by row; 0 is no refusal's
 abbrev pub numberOf : Refusal → ℕ
@@ -23,6 +23,7 @@ numberOf OutsideUnit = 13
 numberOf LogFull = 15
 numberOf NothingToTakeBack = 16
 numberOf BadLog = 17
+numberOf Exponent = 18
 
 -- what a call's tests come to, before it does anything
 pub data Verdict : Type 0 where

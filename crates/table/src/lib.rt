@@ -50,6 +50,8 @@ pub enum Refusal {
     NothingToTakeBack,
     // 17: the log's count is above its places, or on take-back its last record does not go with the table
     BadLog,
+    // 18: an exponent is outside its range
+    Exponent,
 }
 
 // The answer of a call that only does something.
@@ -91,6 +93,7 @@ pub fn number(why: Refusal) -> u32
         Refusal::LogFull => 15,
         Refusal::NothingToTakeBack => 16,
         Refusal::BadLog => 17,
+        Refusal::Exponent => 18,
     }
 }
 

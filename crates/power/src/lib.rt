@@ -1,0 +1,2 @@
+// Powers on whole numbers, by square roots.
+pub mod inside;

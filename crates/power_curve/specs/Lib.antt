@@ -1,0 +1,4 @@
+-- `Curve`: the curve's value and its table. `Promises`: what the calls promise of them. `Demand`: what document 02 asks of gamma curves.
+pub mod Curve
+pub mod Promises
+pub mod Demand
