@@ -50,7 +50,7 @@ pub fn power(base: u64, exponent: u64) -> u64
 {
     let mut a = FULL;
     let mut r = exponent;
-    let mut k = 16;
+    let mut k: u64 = 16;
     while 0 < k {
         a = root_step(a, base, r);
         r = r / 2;
