@@ -41,7 +41,7 @@ module _ (v g : ℕ) (h : v < g * g) where
   step-below = omega (arith, quotient-below)
 
   pub step-keeps : NotBelowRoot v g → NotBelowRoot v ((g + v / g) / 2)
-  step-keeps k = record { above = step-above v g (guess-above v g h); fits = omega (arith, step-below, k .fits) }
+  step-keeps k = record { notBelow = step-above v g (guess-above v g h); fits = omega (arith, step-below, k .fits) }
 
 -- The first guess, of a v of m binary digits, is a step from 2^(m/2).
 module _ (v m : ℕ) (few : m ≤ 64) (h : v < 2 ^ m) where
@@ -59,7 +59,7 @@ module _ (v m : ℕ) (few : m ≤ 64) (h : v < 2 ^ m) where
 
   pub start-keeps : NotBelowRoot v ((2 ^ (m / 2) + v / 2 ^ (m / 2)) / 2)
   start-keeps = record {
-    above = step-above v (2 ^ (m / 2)) (one-le-pow (m / 2) 2 (lit< tt));
+    notBelow = step-above v (2 ^ (m / 2)) (one-le-pow (m / 2) 2 (lit< tt));
     fits = omega (arith, start-small, start-quotient);
   }
 

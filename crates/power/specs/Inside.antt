@@ -3,5 +3,5 @@ use Prim.Native.Nat.{ℕ, _+_, _*_, _≤_, _<_}
 
 -- g is not below the whole root of v, and its square is within 64 bits
 pub record NotBelowRoot (v g : ℕ) : Type 0 where
-  pub above : v < (g + 1) * (g + 1)
+  pub notBelow : v < (g + 1) * (g + 1)
   pub fits : g ≤ 4294967295

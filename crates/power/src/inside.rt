@@ -1,11 +1,11 @@
-// The whole square root, and a power that is worked out by sixteen of them. For the crates above: no door of the library.
+// The whole square root, and a power by sixteen of them. For the crates above: no door of the library.
 ghost use mathlib.Core.Path.{_≡_};
 ghost use Prim.Native.Nat.{_*_, _≤_};
 ghost use Rattle.power.specs.Root.{IsRoot, root};
 ghost use Rattle.power.specs.Power.{factor, power};
 ghost use Rattle.power.specs.Inside.{NotBelowRoot};
 
-// What stands for 1 in a power.
+// What stands for 1 in a power: 65535 units of 65536 parts each.
 const FULL: u64 = 65535 * 65536;
 
 // A guess at the root of v that is not below it, and at most a sixteenth above: Newton's step from the power of two
@@ -17,7 +17,8 @@ fn first_guess(v: u64) -> u64
     ((1u64 << half) + (v >> half)) / 2
 }
 
-// The whole square root, by Newton's steps: each is smaller than the one before and not below the root. Two or three do.
+// The whole square root, by Newton's steps: each guess is smaller than the one before it and not below the root. Three
+// steps do, or fewer; seldom it takes a fourth.
 pub fn isqrt(v: u64) -> u64
     ensures { λ r. ⌜ IsRoot v r ⌝ }
 {
@@ -36,14 +37,14 @@ fn root_step(a: u64, base: u64, r: u64) -> u64
     if r % 2 == 1 {
         return isqrt(a * base);
     }
-    // So it is up to the first digit that is 1, which of a gamma tag is the ninth or a later one.
+    // It stays so up to the first digit that is 1. An exponent from a gamma tag ends in eight digits that are 0.
     if a == FULL {
         return FULL;
     }
     isqrt(a * FULL)
 }
 
-// The power of base with 65536ths of `exponent`, where FULL stands for 1.
+// `base` to the power of exponent/65536, where FULL stands for 1.
 pub fn power(base: u64, exponent: u64) -> u64
     requires { ⌜ base ≤ 4294901760 ⌝ }
     ensures { λ s. ⌜ (s ≡ power 4294901760 base exponent) × (s ≤ 4294901760) ⌝ }

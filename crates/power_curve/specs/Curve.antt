@@ -8,12 +8,12 @@ use Rattle.power.specs.Power.{power}
 use Rattle.curve.specs.Ramp.{ramp}
 
 -- what is added before the last division, by 65536: an exponent below 1 rounds up, one of 1 or more to the nearest
-unfoldable pub half : ℕ → ℕ
-half p = pick (ltb p 65536) 65535 32768
+unfoldable pub added : ℕ → ℕ
+added p = pick (ltb p 65536) 65535 32768
 
--- the value at x: x and the power of it have 65536 parts to a unit, so that 65535 units are U = 65535·65536
+-- the value at x: the power of x·65536, where 65535·65536 stands for 1, in 65536ths of a unit, and then in units
 unfoldable pub valueAt : ℕ → ℕ → ℕ
-valueAt p x = (power 4294901760 (x * 65536) p + half p) / 65536
+valueAt p x = (power 4294901760 (x * 65536) p + added p) / 65536
 
 -- entry i of a table of n entries: the value at entry i of the straight curve of n entries
 abbrev pub entryAt : ℕ → ℕ → ℕ → ℕ
@@ -22,3 +22,7 @@ entryAt p n i = valueAt p (ramp n i)
 -- all n of them
 abbrev pub tableOf : ℕ → ℕ → List ℕ
 tableOf p n = tabulated (entryAt p n) n
+
+-- what an entry k of a gamma tag means: p = 256k
+abbrev pub exponentOf : ℕ → ℕ
+exponentOf k = 256 * k

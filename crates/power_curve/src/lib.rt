@@ -11,22 +11,21 @@ use table::spanned;
 use table::within;
 ghost use mathlib.Core.Path.{_≡_};
 ghost use mathlib.Core.Bool.{true};
-ghost use Prim.Native.Nat.{_*_};
 ghost use lib.ListN.{length};
 ghost use Rattle.table.specs.Sizes.{spanned};
-ghost use Rattle.power_curve.specs.Curve.{half, valueAt, tableOf};
-ghost use Rattle.power_curve.specs.Promises.{allowed, PowerPromise, PowerTablePromise, TagPowerPromise, TagPowerTablePromise};
+ghost use Rattle.power_curve.specs.Curve.{added, valueAt, tableOf, exponentOf};
+ghost use Rattle.power_curve.specs.Promises.{allowedExponent, PowerPromise, PowerTablePromise};
 
-// Whether a curve may have the exponent: above 0 and at most 4.
+// Whether a curve may have the exponent: above 0 and at most 4. Like every `exponent` here it counts 65536ths.
 fn allowed(exponent: u64) -> bool
-    ensures { λ r. ⌜ r ≡ allowed exponent ⌝ }
+    ensures { λ r. ⌜ r ≡ allowedExponent exponent ⌝ }
 {
     within(1, 262144, exponent as usize)
 }
 
 // What is added before the last division, so that it rounds as it should.
-fn half(exponent: u64) -> u64
-    ensures { λ r. ⌜ r ≡ half exponent ⌝ }
+fn added(exponent: u64) -> u64
+    ensures { λ r. ⌜ r ≡ added exponent ⌝ }
 {
     if exponent < 65536 {
         return 65535;
@@ -38,7 +37,7 @@ fn half(exponent: u64) -> u64
 fn value(x: u16, exponent: u64) -> u16
     ensures { λ r. ⌜ r ≡ valueAt exponent x ⌝ }
 {
-    ((power_of(x as u64 * 65536, exponent) + half(exponent)) / 65536) as u16
+    ((power_of(x as u64 * 65536, exponent) + added(exponent)) / 65536) as u16
 }
 
 // The curve over the whole buffer.
@@ -54,14 +53,7 @@ fn fill_values(out: &mut [u16], exponent: u64)
     }
 }
 
-// The exponent that a gamma tag's entry stands for: the tag counts in 256ths.
-fn exponent_of(gamma: u16) -> u64
-    ensures { λ r. ⌜ r ≡ 256 * gamma ⌝ }
-{
-    256 * gamma as u64
-}
-
-// The value at x of the curve with 65536ths of `exponent`.
+// The curve's value at x: 65535·(x/65535)^(exponent/65536), to within one.
 pub fn power(x: Drive, exponent: u64) -> Looked
     ensures { λ r. ⌜ PowerPromise x exponent r ⌝ }
 {
@@ -88,16 +80,16 @@ pub fn power_table(out: &mut [u16], n: usize, exponent: u64) -> Done
     Done::Yes
 }
 
-// The value at x of the curve that a gamma tag's entry stands for.
+// The value at x of the curve that a gamma tag's entry means, which counts 256ths.
 pub fn tag_power(x: Drive, gamma: u16) -> Looked
-    ensures { λ r. ⌜ TagPowerPromise x gamma r ⌝ }
+    ensures { λ r. ⌜ PowerPromise x (exponentOf gamma) r ⌝ }
 {
-    power(x, exponent_of(gamma))
+    power(x, 256 * gamma as u64)
 }
 
-// Fills a buffer of n entries with the curve that a gamma tag's entry stands for.
+// Fills a buffer of n entries with the curve that a gamma tag's entry means.
 pub fn tag_power_table(out: &mut [u16], n: usize, gamma: u16) -> Done
-    ensures { λ r. ⌜ TagPowerTablePromise (now (out .entry)) n gamma r (now (out .exit)) ⌝ }
+    ensures { λ r. ⌜ PowerTablePromise (now (out .entry)) n (exponentOf gamma) r (now (out .exit)) ⌝ }
 {
-    power_table(out, n, exponent_of(gamma))
+    power_table(out, n, 256 * gamma as u64)
 }

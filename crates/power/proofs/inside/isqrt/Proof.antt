@@ -38,7 +38,7 @@ loop-again : tie.Need-loop-again Inv-loop μ-loop
 loop-again c = step-keeps _ _ (c .loop-test .taken) (c .before .loop .inv)
 
 returns : tie.Need-returns Inv-loop μ-loop
-returns c = record { low = c .loop-test .left; high = c .before .loop .inv .above }
+returns c = record { low = c .loop-test .left; high = c .before .loop .inv .notBelow }
 
 pub isqrt-spec : {M : Type 1} → statement M
 isqrt-spec =

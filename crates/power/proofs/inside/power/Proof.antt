@@ -41,8 +41,8 @@ loop-again c =
     let base = l .before .args .base in
     let e = c .root-step .ensures in (
       ap (rootSteps 4294901760 base (l .loop .k - 1) _) (e .0)
-      ∙ sym (root-turn 4294901760 base (l .loop .k) (l .loop .r) (l .loop .a) (omega arith))
-      ∙ l .loop .inv .0,
+          ∙ sym (root-turn 4294901760 base (l .loop .k) (l .loop .r) (l .loop .a) (omega arith))
+          ∙ l .loop .inv .0,
       e .1,
     )
 
