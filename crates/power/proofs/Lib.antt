@@ -4,3 +4,5 @@ pub mod Roots
 pub mod Newton
 pub mod Arithmetic
 pub mod Steps
+pub mod Kept
+pub mod Rises

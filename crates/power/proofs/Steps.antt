@@ -50,7 +50,7 @@ module _ (U β : ℕ) where
   unfolding factor
   factor-one r e = simp (eq-eqb (r % 2) 1 e)
 
-  factor-zero : (r : ℕ) → (r % 2 ≡ 1 → ⊥) → factor U β r ≡ U
+  pub factor-zero : (r : ℕ) → (r % 2 ≡ 1 → ⊥) → factor U β r ≡ U
   unfolding factor
   factor-zero r n = simp (ne-eqb (r % 2) 1 n)
 
