@@ -1,6 +1,6 @@
--- How near the power is to U·(β/U)^(p/N), from step to step, over any U whose square fits 64 bits, any β up to U and any p. Each step
--- cuts something off, so that A is never above, and what was cut off is held as a factor: of (β + 1)/β for all the roots together, and
--- of one more part of A for the roots and for each whole step. Assumes nothing.
+-- How near the power is to U·(β/U)^(p/N), from step to step, over any U whose square fits 64 bits, any β up to U and
+-- any p. Each step cuts something off, so that A is never above, and what was cut off is held as a factor: of (β + 1)/β
+-- for all the roots together, and of one more part of A for the roots and for each whole step. Assumes nothing.
 use mathlib.Core.Path.{_≡_, refl, sym, ap, _∙_, subst}
 use mathlib.Core.Bool.{Bool, true, false}
 use Prim.Native.Nat.{ℕ, zero, suc, _+_, _*_, _/_, _%_, _^_, _≤_, _<_}
@@ -68,18 +68,20 @@ module _ (U β q m A C s e : ℕ) (key : C ^ m * U ^ e ≡ β ^ e * U ^ m) where
       products : (b v y z u c ue be t : ℕ) → b * v * y ≤ z * u → z * c * y ≤ t → c * ue ≡ be * v →
           b * be * (v * v) * (y * y) ≤ t * (u * ue)
       products b v y z u c ue be t h k e =
-          omega (arith, mul-le-mul-right (c * ue * y) h, mul-le-mul-right (u * ue) k, ap (λ (x : ℕ). b * v * y * y * x) e)
+          let f = ap (λ (x : ℕ). b * v * y * y * x) e in
+          omega (arith, mul-le-mul-right (c * ue * y) h, mul-le-mul-right (u * ue) k, f)
 
 -- what the cut of one root does to both factors
-cut : (β A C s : ℕ) → β ≤ A → A * C < (s + 1) * (s + 1) → (β + 1) * (A + 1) * C * β ≤ (β + 1) * (s + 1) * ((β + 1) * (s + 1))
+cut : (β A C s : ℕ) → β ≤ A → A * C < (s + 1) * (s + 1) →
+    (β + 1) * (A + 1) * C * β ≤ (β + 1) * (s + 1) * ((β + 1) * (s + 1))
 cut β A C s h r =
     let e : (A + 1) * β ≤ A * (β + 1) = omega arith in
     let d : A * C ≤ (s + 1) * (s + 1) = omega arith in
     omega (arith, mul-le-mul-right ((β + 1) * C) e, mul-le-mul-right ((β + 1) * (β + 1)) d)
 
 module _ (U β p : ℕ) where
-  root-kept : (m r A C e s : ℕ) (k : Rooted U β p m r A) → C ^ m * U ^ e ≡ β ^ e * U ^ m → IsRoot (A * C) s → β ≤ s → s ≤ U →
-      k .q + e + (m + m) * (r / 2) ≡ p → k .q + e < m + m → Rooted U β p (m + m) (r / 2) s
+  root-kept : (m r A C e s : ℕ) (k : Rooted U β p m r A) → C ^ m * U ^ e ≡ β ^ e * U ^ m → IsRoot (A * C) s →
+      β ≤ s → s ≤ U → k .q + e + (m + m) * (r / 2) ≡ p → k .q + e < m + m → Rooted U β p (m + m) (r / 2) s
   root-kept m r A C e s k key i b u n l = record {
     q = k .q + e;
     above = b;
@@ -103,7 +105,8 @@ module _ (U β p : ℕ) where
             (le-root β i (mul-le-mul-right β (k .above))) (root-le U i (mul-le-mul (k .below) b))
             (omega (arith, k .count, ap (λ (z : ℕ). m * z) odd)) (omega (arith, k .less))
         go false e =
-            let i : IsRoot (A * U) (root (A * U)) = root-is (A * U) (lt-of-le-of-lt (mul-le-mul (k .below) (le-refl U)) fits) in
+            let i : IsRoot (A * U) (root (A * U))
+            = root-is (A * U) (lt-of-le-of-lt (mul-le-mul (k .below) (le-refl U)) fits) in
             let even : r ≡ 2 * (r / 2) = omega (arith, eqb-false (r % 2) 1 e) in
             let key : U ^ m * U ^ 0 ≡ β ^ 0 * U ^ m = rw (pow-zero U, pow-zero β) (omega arith) in
             root-kept m r A U 0 (root (A * U)) k key i
@@ -124,10 +127,13 @@ module _ (U β p : ℕ) where
         record {
           q = k .q + N;
           below = le-trans (whole-le U β A (k .below)) b;
-          low = rw (pow-add U (k .q) N, pow-add β (k .q) N) (lower (A ^ N) (U ^ k .q) (β ^ k .q) (U ^ N) (β ^ N) (D ^ N) (k .low) l);
+          low =
+              rw (pow-add U (k .q) N, pow-add β (k .q) N)
+              (lower (A ^ N) (U ^ k .q) (β ^ k .q) (U ^ N) (β ^ N) (D ^ N) (k .low) l);
           high =
               rw (pow-add U (k .q) N, pow-add β (k .q) N, mul-pow (β + 1) (D + (1 + suc j)) N)
-              (higher (β ^ k .q) (U ^ N) (β ^ N) ((β + 1) ^ N) ((A + (1 + j)) ^ N) (U ^ k .q) ((D + (1 + suc j)) ^ N) high h);
+              (higher (β ^ k .q) (U ^ N) (β ^ N) ((β + 1) ^ N) ((A + (1 + j)) ^ N) (U ^ k .q) ((D + (1 + suc j)) ^ N)
+              high h);
           count = omega (arith, k .count);
           capped = λ x. whole-le U β A (k .below);
         }
@@ -152,7 +158,8 @@ module _ (U β p : ℕ) where
         })
     wholes-kept (suc r) N j A k =
         let z : suc j + r ≡ j + suc r = omega arith in
-        subst (λ (w : ℕ). Ended U β p N w (wholeSteps U β r (A * β / U))) z (wholes-kept r N (suc j) (A * β / U) (whole-kept N j r A k))
+        subst (λ (w : ℕ). Ended U β p N w (wholeSteps U β r (A * β / U))) z
+        (wholes-kept r N (suc j) (A * β / U) (whole-kept N j r A k))
 
 -- What is known of a power A: of p, `part` is worked in by roots, and the rest by w whole steps.
 pub record Powered (U β p N A : ℕ) : Type 0 where
@@ -172,7 +179,14 @@ module _ (U β p : ℕ) (b : β ≤ U) (fits : U * U < 18446744073709551616) (so
   unfolding rootSteps doubled
   roots-kept zero m r A s =
       let none : Stepped U β p m 0 r A
-      = record { q = s .q; below = s .below; low = s .low; high = s .high; count = s .count; capped = λ h. absurd (omega arith) } in
+      = record {
+        q = s .q;
+        below = s .below;
+        low = s .low;
+        high = s .high;
+        count = s .count;
+        capped = λ h. absurd (omega arith);
+      } in
       let z : 0 + r ≡ r = omega arith in
       record {
         w = r;

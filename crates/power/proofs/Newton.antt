@@ -1,5 +1,5 @@
--- Newton's steps towards a square root, on whole numbers: a step from any guess above 0 is not below the root, and one from a guess whose
--- square is above v is smaller than the guess. Assumes nothing.
+-- Newton's steps towards a square root, on whole numbers: a step from any guess above 0 is not below the root, and one
+-- from a guess whose square is above v is smaller than the guess. Assumes nothing.
 use mathlib.Core.Path.{_≡_, _∙_, sym, subst}
 use mathlib.Core.Logic.{⊎-elim}
 use Prim.Native.Nat.{ℕ, zero, suc, _+_, _*_, _/_, _%_, _^_, _≤_, _<_}
@@ -54,7 +54,8 @@ module _ (v m : ℕ) (few : m ≤ 64) (h : v < 2 ^ m) where
   pub start-quotient : v / 2 ^ (m / 2) < 4294967296
   start-quotient =
       let some : 0 < 2 ^ (m / 2) = one-le-pow (m / 2) 2 (lit< tt) in
-      let wide : 2 ^ m ≤ 4294967296 * 2 ^ (m / 2) = le-trans (pow-mono {i = m} {j = 32 + m / 2} (omega arith)) (le-of-eq (pow-add 2 32 (m / 2))) in
+      let wide : 2 ^ m ≤ 4294967296 * 2 ^ (m / 2)
+      = le-trans (pow-mono {i = m} {j = 32 + m / 2} (omega arith)) (le-of-eq (pow-add 2 32 (m / 2))) in
       div-lt-iff-lt-mul some .1 (lt-of-lt-of-le h wide)
 
   pub start-keeps : NotBelowRoot v ((2 ^ (m / 2) + v / 2 ^ (m / 2)) / 2)

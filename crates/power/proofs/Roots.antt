@@ -11,7 +11,8 @@ use Rattle.power.specs.Root.{IsRoot, orOneMore, rootBelow, root}
 
 pub roots-rise : {v w r s : ℕ} → IsRoot v r → IsRoot w s → v ≤ w → r ≤ s
 roots-rise {v} {w} {r} {s} a b h =
-    let no : (s < r → ⊥) = λ (l : s < r). let m : s + 1 ≤ r = omega arith in omega (arith, mul-le-mul m m, a .low, b .high) in
+    let no : (s < r → ⊥)
+    = λ (l : s < r). let m : s + 1 ≤ r = omega arith in omega (arith, mul-le-mul m m, a .low, b .high) in
     omega arith
 
 pub one-root : {v r s : ℕ} → IsRoot v r → IsRoot v s → r ≡ s

@@ -1,4 +1,5 @@
--- The definition of a power turn by turn, and what each turn is at most, over any U that its square fits in 64 bits. Assumes nothing.
+-- The definition of a power turn by turn, and what each turn is at most, over any U that its square fits in 64 bits.
+-- Assumes nothing.
 use mathlib.Core.Path.{_≡_, refl}
 use mathlib.Core.Bool.{Bool, true, false}
 use Prim.Native.Nat.{ℕ, zero, suc, _+_, _-_, _*_, _/_, _%_, _≤_, _<_}

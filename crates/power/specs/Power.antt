@@ -1,5 +1,5 @@
--- A power on whole numbers, U·(β/U)^(p/65536), each step of it rounded down. U, which is below 2^32, stands for 1, and β, which
--- is at most U, for β/U. Assumes nothing.
+-- A power on whole numbers, U·(β/U)^(p/65536), each step of it rounded down. U, which is below 2^32, stands for 1, and
+-- β, which is at most U, for β/U. Assumes nothing.
 use Prim.Native.Nat.{ℕ, zero, suc, _*_, _/_, _%_}
 use lib.Dec.{eqb}
 use Rattle.table.specs.Choice.{pick}
@@ -14,8 +14,8 @@ unfoldable pub wholeSteps : ℕ → ℕ → ℕ → ℕ → ℕ
 wholeSteps U β zero a = a
 wholeSteps U β (suc r) a = wholeSteps U β r (a * β / U)
 
--- k square roots, one for each of the last k binary digits of r, the last digit first; then as many whole steps as the digits
--- that are left say
+-- k square roots, one for each of the last k binary digits of r, the last digit first; then as many whole steps as the
+-- digits that are left say
 unfoldable pub rootSteps : ℕ → ℕ → ℕ → ℕ → ℕ → ℕ
 rootSteps U β zero r a = wholeSteps U β r a
 rootSteps U β (suc k) r a = rootSteps U β k (r / 2) (root (a * factor U β r))

@@ -1,5 +1,5 @@
--- Each promise is met (`power-some`, `power-table-some`) and names one answer and one later buffer, refused calls too; and what it
--- tells whoever knows that n and the exponent are within their ranges. Assumes nothing.
+-- Each promise is met (`power-some`, `power-table-some`) and names one answer and one later buffer, refused calls too;
+-- and what it tells whoever knows that n and the exponent are within their ranges. Assumes nothing.
 use mathlib.Core.Path.{_≡_, _∙_, refl, sym}
 use mathlib.Core.Bool.{true}
 use mathlib.Core.List.{List}
@@ -31,11 +31,13 @@ module _ {x : Drive} {p : ℕ} where
 
 -- A table.
 pub power-table-some : (out : List ℕ) (n p : ℕ) →
-    PowerTablePromise out n p (doneBy (powerTableVerdict out n p)) (ifGranted (powerTableVerdict out n p) (tableOf p n) out)
+    PowerTablePromise out n p (doneBy (powerTableVerdict out n p))
+    (ifGranted (powerTableVerdict out n p) (tableOf p n) out)
 power-table-some out n p = record { number = done-number (powerTableVerdict out n p); after = refl }
 
 module _ {out : List ℕ} {n p : ℕ} where
-  pub power-table-one : {r s : Done} {t u : List ℕ} → PowerTablePromise out n p r t → PowerTablePromise out n p s u → (r ≡ s) × (t ≡ u)
+  pub power-table-one : {r s : Done} {t u : List ℕ} → PowerTablePromise out n p r t → PowerTablePromise out n p s u →
+      (r ≡ s) × (t ≡ u)
   power-table-one {r} {s} a b = (same-done r s (a .number ∙ sym (b .number)), a .after ∙ sym (b .after))
 
   pub power-table-granted : {r : Done} {t : List ℕ} → spanned n ≡ true → allowedExponent p ≡ true → length out ≡ n →

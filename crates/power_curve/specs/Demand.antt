@@ -50,7 +50,8 @@ pub record ValuesObey (p : ℕ) : Type 0 where
   pub never-falls : (v w : PowerIn p) → xOf v ≤ xOf w → sampleOf v ≤ sampleOf w
   pub at-most : (v : PowerIn p) → sampleOf v ≤ 65535
 
--- a table of n entries with the exponent p: an output of that length, and any answer and later table that keep the promise
+-- a table of n entries with the exponent p: an output of that length, and any answer and later table that keep the
+-- promise
 pub record TableIn (n p : ℕ) (out : List ℕ) : Type 0 where
   pub answer : Done
   pub table : List ℕ
@@ -68,7 +69,8 @@ pub record TablesObey (n p : ℕ) (out : List ℕ) : Type 0 where
 
 pub record PowerDemand : Type 0 where
   pub values : (p : ℕ) → allowedExponent p ≡ true → ValuesObey p
-  pub tables : (n p : ℕ) (out : List ℕ) → spanned n ≡ true → allowedExponent p ≡ true → length out ≡ n → TablesObey n p out
+  pub tables : (n p : ℕ) (out : List ℕ) → spanned n ≡ true → allowedExponent p ≡ true → length out ≡ n →
+      TablesObey n p out
   -- at p = 65536 the value is x itself
   pub one : (v : PowerIn 65536) → sampleOf v ≡ xOf v
   -- a gamma tag's entry may be 1 to 1,024, and one of 256 is start on the same buffer, refused or not

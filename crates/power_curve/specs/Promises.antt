@@ -1,5 +1,6 @@
--- What each call of this crate promises: when it is refused and by which number, its value, and what the lent buffer holds
--- after it. The calls that take a gamma tag's entry promise the same of the exponent that it means. Assumes nothing.
+-- What each call of this crate promises: when it is refused and by which number, its value, and what the lent buffer
+-- holds after it. The calls that take a gamma tag's entry promise the same of the exponent that it means. Assumes
+-- nothing.
 use Prim.Native.Nat.{ℕ}
 use mathlib.Core.Path.{_≡_}
 use mathlib.Core.Bool.{Bool}

@@ -1,4 +1,5 @@
--- `fill_values` meets its contract: the loop fills the buffer with the values at the straight curve of its own length. Assumes nothing.
+-- `fill_values` meets its contract: the loop fills the buffer with the values at the straight curve of its own length.
+-- Assumes nothing.
 use mathlib.Core.Path.{refl, ap, _∙_}
 use Prim.Native.Nat.{_-_}
 use native.Mathlib.Omega.{arith}

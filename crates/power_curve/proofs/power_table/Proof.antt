@@ -55,7 +55,10 @@ returns-4 c =
     let p = exponent-ok (e .before) in
     let l = e .if3 .left in
     let h = eq-eqb _ _ l in
-    record { number = simp (s, p, h); after = simp (s, p, h) (c .before .before .fill-values .ensures ∙ ap (tableOf _) l) }
+    record {
+      number = simp (s, p, h);
+      after = simp (s, p, h) (c .before .before .fill-values .ensures ∙ ap (tableOf _) l);
+    }
 
 pub power-table-spec : {M : Type 1} → statement M
 power-table-spec =

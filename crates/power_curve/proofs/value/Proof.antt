@@ -1,4 +1,5 @@
--- `value` meets its contract: a power and what is added to it stay below 65536 units, so that the answer fits 16 bits. Assumes nothing.
+-- `value` meets its contract: a power and what is added to it stay below 65536 units, so that the answer fits 16 bits.
+-- Assumes nothing.
 use native.Mathlib.Omega.{arith}
 use borrow.Author.Needs.{needs}
 use Rattle.power_curve.specs.Curve.{valueAt}
@@ -16,10 +17,12 @@ added-requires : tie.Need-added-requires
 added-requires c κs = search needs
 
 add-result : tie.Need-add-result
-add-result c = omega (arith, c .before .power .ensures .1, c .added .ensures, added-size (c .before .before .args .exponent))
+add-result c =
+    omega (arith, c .before .power .ensures .1, c .added .ensures, added-size (c .before .before .args .exponent))
 
 cast-result : tie.Need-cast-result
-cast-result c = omega (arith, c .before .power .ensures .1, c .added .ensures, added-size (c .before .before .args .exponent))
+cast-result c =
+    omega (arith, c .before .power .ensures .1, c .added .ensures, added-size (c .before .before .args .exponent))
 
 returns : tie.Need-returns
 unfolding valueAt

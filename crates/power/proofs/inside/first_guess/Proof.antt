@@ -1,4 +1,5 @@
--- `first_guess` meets its contract: with m for how many binary digits v has, it is a step from 2^(m/2). Assumes nothing.
+-- `first_guess` meets its contract: with m for how many binary digits v has, it is a step from 2^(m/2). Assumes
+-- nothing.
 use mathlib.Core.Path.{_≡_, refl, sym, ap, subst}
 use Prim.Native.Nat.{ℕ, _+_, _-_, _*_, _/_, _%_, _^_, _≤_, _<_}
 use native.Mathlib.Omega.{arith}

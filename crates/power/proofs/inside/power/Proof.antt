@@ -1,5 +1,5 @@
--- `power` meets its contract. The invariant of each loop: what the definition makes of a and of what is left of the exponent is the
--- power, and a is at most what stands for 1. Assumes nothing.
+-- `power` meets its contract. The invariant of each loop: what the definition makes of a and of what is left of the
+-- exponent is the power, and a is at most what stands for 1. Assumes nothing.
 use mathlib.Core.Path.{_≡_, refl, sym, ap, _∙_}
 use Prim.Native.Nat.{ℕ, _-_, _≤_}
 use native.Mathlib.Nat.{mul-le-mul, le-trans}
@@ -11,13 +11,15 @@ use Rattle.power.proofs.inside.power.Statement.{statement}
 use Rattle.power.proofs.inside.power.Tie as tie
 
 abbrev Inv-loop : tie.InvT-loop
-Inv-loop base exponent a₀ r₀ k₀ a r k = (rootSteps 4294901760 base k r a ≡ power 4294901760 base exponent) × (a ≤ 4294901760)
+Inv-loop base exponent a₀ r₀ k₀ a r k =
+    (rootSteps 4294901760 base k r a ≡ power 4294901760 base exponent) × (a ≤ 4294901760)
 
 abbrev μ-loop : tie.MeasureT-loop
 μ-loop base exponent a₀ r₀ k₀ a r k = k
 
 abbrev Inv-loop2 : tie.InvT-loop2
-Inv-loop2 base exponent a₀ r₀ k a r = (wholeSteps 4294901760 base r a ≡ power 4294901760 base exponent) × (a ≤ 4294901760)
+Inv-loop2 base exponent a₀ r₀ k a r =
+    (wholeSteps 4294901760 base r a ≡ power 4294901760 base exponent) × (a ≤ 4294901760)
 
 abbrev μ-loop2 : tie.MeasureT-loop2
 μ-loop2 base exponent a₀ r₀ k a r = r
@@ -50,7 +52,8 @@ loop2-holds : tie.Need-loop2-holds Inv-loop μ-loop Inv-loop2 μ-loop2
 loop2-holds c =
     let l = c .before in
     let none : l .loop .k ≡ 0 = omega arith in
-    (sym (root-end 4294901760 (l .before .args .base) (l .loop .r) (l .loop .a)) ∙ rw none at (l .loop .inv .0), l .loop .inv .1)
+    let base = l .before .args .base in
+    (sym (root-end 4294901760 base (l .loop .r) (l .loop .a)) ∙ rw none at (l .loop .inv .0), l .loop .inv .1)
 
 mul-a : tie.Need-mul-a Inv-loop μ-loop Inv-loop2 μ-loop2
 mul-a c =
@@ -76,7 +79,8 @@ returns : tie.Need-returns Inv-loop μ-loop Inv-loop2 μ-loop2
 returns c =
     let l = c .before in
     let none : l .loop2 .r ≡ 0 = omega arith in
-    (sym (whole-end 4294901760 (l .before .before .before .args .base) (l .loop2 .a)) ∙ rw none at (l .loop2 .inv .0), l .loop2 .inv .1)
+    let base = l .before .before .before .args .base in
+    (sym (whole-end 4294901760 base (l .loop2 .a)) ∙ rw none at (l .loop2 .inv .0), l .loop2 .inv .1)
 
 pub power-spec : {M : Type 1} → statement M
 power-spec =
