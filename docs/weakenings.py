@@ -11,7 +11,7 @@ import contracts
 
 FACE, LOOKUP, LAWS = contracts.FACE, "crates/lookup/src/lib.rt", "crates/lookup/proofs/Promises.antt"
 LOOKUPS, INVERSES, TABLE = f"{FACE}/src/lookups.rt", f"{FACE}/src/inverses.rt", "crates/table/src/lib.rt"
-LOGGED = "crates/logged/src/lib.rt"
+LOGGED, POWERS = "crates/logged/src/lib.rt", "crates/power_curve/src/lib.rt"
 # How the check begins what it says.
 OF_LOOKUP, OF_BAKE = "lut_interp_linear16: its contract: ", "bg_bake: its contract: "
 OF_FACE = "its law of one answer, `bg-passthrough-one`: it"
@@ -89,6 +89,16 @@ WEAKENINGS = [
         "a contract leaves one of three later states out",
         "log_nudge: its contract: ",
         (LOGGED, r"(fn log_nudge\b[^⌝]*count) \.exit", r"\1 .entry"),
+    ),
+    (
+        "a contract turns an argument into something that the page does not tell",
+        "`power_curve::tag_power`: the contract rests on `tableOf`",
+        (POWERS, r"(PowerPromise x )\(exponentOf gamma\)", r"\1(tableOf gamma)"),
+    ),
+    (
+        "an export does not turn an argument as its routine does",
+        "beside that of `power_curve::tag_power`",
+        (f"{FACE}/src/powers.rt", r"(fn bg_tag_power\b[^⌝]*)\(exponentOf gamma\)", r"\1gamma"),
     ),
     (
         "a contract is of another call's case",
