@@ -97,3 +97,10 @@ module _ (k M N p x n h A : ℕ) (unit : M + 1 ≡ k) (few : x ≤ M) (pos : 0 <
           let z : w ≡ 0 = omega arith in
           high-roots (up z) xp (subst (λ (v : ℕ). Ended (M * k) (x * k) p N v A) z e))
           (below? 0 w)
+
+-- The bound alone leaves more than one answer: with an exponent of 1, x and both of its neighbours meet it.
+pub near-by-one : (N M x n : ℕ) → n - 1 ≤ x → x ≤ n + 1 → Near N M N x n
+near-by-one N M x n l h = record {
+  low = mul-le-mul-right (M ^ N) (pow-le-pow-left l N);
+  high = mul-le-mul-right (M ^ N) (pow-le-pow-left h N);
+}
