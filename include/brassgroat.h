@@ -45,7 +45,7 @@ extern "C" {
  * version may have other structs, or logs of another length, so a program asks first whether bg_version() is
  * BG_VERSION.
  */
-#define BG_VERSION 300
+#define BG_VERSION 400
 
 /* Why a call is refused; 0 is no refusal. Later versions may have further numbers; 14 is given by no call yet. */
 enum bg_refusal {

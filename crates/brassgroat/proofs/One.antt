@@ -28,6 +28,7 @@ use Rattle.parametric.proofs.Compare.{compare-one}
 use Rattle.monotonic.proofs.Promises.{monotonic-one}
 use Rattle.degeneration.proofs.Promises.{degenerated-one}
 use Rattle.house.proofs.Promises.{entry-one, fill-one}
+use Rattle.power_curve.proofs.Promises.{power-one, power-table-one, tag-power-one, tag-power-table-one}
 use Rattle.curv.proofs.Promises.{count-one}
 use Rattle.curv_reader.proofs.Promises as curv-reader
 use Rattle.curv_part.specs.Promises.{past}
@@ -67,6 +68,10 @@ use Rattle.brassgroat.proofs.verdicts.bg_is_curve_monotonic.Reads as bg
 use Rattle.brassgroat.proofs.verdicts.bg_is_curve_degenerated.Reads as bg_is_curve_degenerated
 use Rattle.brassgroat.proofs.house_curve.bg_house_entry.Reads as bg_house_entry
 use Rattle.brassgroat.proofs.house_curve.bg_house_fill.Reads as bg_house_fill
+use Rattle.brassgroat.proofs.powers.bg_power.Reads as bg_power
+use Rattle.brassgroat.proofs.powers.bg_power_table.Reads as bg_power_table
+use Rattle.brassgroat.proofs.powers.bg_tag_power.Reads as bg_tag_power
+use Rattle.brassgroat.proofs.powers.bg_tag_power_table.Reads as bg_tag_power_table
 use Rattle.brassgroat.proofs.curv_tags.bg_curv_count.Reads as bg_curv_count
 use Rattle.brassgroat.proofs.curv_tags.bg_curv_read.Reads as bg_curv_read
 use Rattle.brassgroat.proofs.curv_tags.bg_curv_part.Reads as bg_curv_part
@@ -193,6 +198,19 @@ bg-entry-one = one-answer (λ κs a. entry-one (a .0))
 
 pub bg-fill-one : OneAnswerAndBuffer bg_house_fill.Post first
 bg-fill-one = one-both (λ κs a e f l m. fill-one (now (a .0)) l m (now (e .0)) (now (f .0)))
+
+-- Gamma curves.
+pub bg-power-one : OneAnswer bg_power.Post
+bg-power-one = one-answer (λ κs a l m. power-one)
+
+pub bg-power-table-one : OneAnswerAndBuffer bg_power_table.Post first
+bg-power-table-one = one-both (λ κs a e f l m. power-table-one)
+
+pub bg-tag-power-one : OneAnswer bg_tag_power.Post
+bg-tag-power-one = one-answer (λ κs a l m. tag-power-one)
+
+pub bg-tag-power-table-one : OneAnswerAndBuffer bg_tag_power_table.Post first
+bg-tag-power-table-one = one-both (λ κs a e f l m. tag-power-table-one)
 
 -- Tags.
 pub bg-count-one : OneAnswer bg_curv_count.Post

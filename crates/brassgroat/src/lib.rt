@@ -9,5 +9,6 @@ pub mod logs;
 pub mod lookups;
 pub mod para_tags;
 pub mod parametrics;
+pub mod powers;
 pub mod verdicts;
 pub mod version;

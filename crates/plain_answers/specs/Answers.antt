@@ -64,6 +64,6 @@ asDegeneration l = record { refusal = numberOfDegenerated l; yes = eqb (yesOfDeg
 abbrev pub asCount : Counted → Count
 asCount l = record { refusal = numberOfCounted l; entries = valueOfCounted l }
 
--- 0.3.0, as include/brassgroat.h and bindings/rust/Cargo.toml have it; face/test compares the three
+-- 0.4.0, as include/brassgroat.h and bindings/rust/Cargo.toml have it; face/test compares the three
 abbrev pub version : ℕ
-version = 300
+version = 400

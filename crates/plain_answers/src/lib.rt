@@ -14,7 +14,7 @@ pub mod inside;
 pub fn version() -> u32
     ensures { λ r. ⌜ r ≡ version ⌝ }
 {
-    300
+    400
 }
 
 // A sample.
