@@ -6,7 +6,7 @@
  *
  * What holds for every call:
  *
- * - It takes any input at all. It answers, or it refuses with one of the sixteen numbers of `enum bg_refusal`. A
+ * - It takes any input at all. It answers, or it refuses with one of the seventeen numbers of `enum bg_refusal`. A
  *   refused answer has 0 in every other place, and a refused call has changed no buffer. Where several refusals apply,
  *   the one that is listed first at the call is given.
  * - A buffer is a pointer and a count of its ELEMENTS, not bytes. The pointer must be aligned for its type and good for
@@ -65,7 +65,8 @@ enum bg_refusal {
     BG_OUTSIDE_UNIT = 13,       /* the input of bg_lut_interp_linear is a NaN, below 0 or above 1 */
     BG_LOG_FULL = 15,           /* BG_LOG_PLACES nudges stand in the log */
     BG_NOTHING_TO_TAKE_BACK = 16, /* no nudge stands in the log */
-    BG_BAD_LOG = 17             /* the count is above BG_LOG_PLACES, or the nudge to take back is not this table's */
+    BG_BAD_LOG = 17,            /* the count is above BG_LOG_PLACES, or the nudge to take back is not this table's */
+    BG_EXPONENT = 18            /* a gamma curve's exponent is 0 or above 4: outside 1 to 262,144, or of a tag 1 to 1,024 */
 };
 
 /* A position, and a sample. */
@@ -269,6 +270,45 @@ bg_sample bg_house_entry(size_t index);
 
 /* All entries. Refused: 6 where out_len is not 1,024. */
 uint32_t bg_house_fill(uint16_t *out, size_t out_len);
+
+/* ---- Gamma curves (crates power and power_curve) ---- */
+
+/*
+ * A gamma curve is 65535 * (x / 65535)^e for drives x, with an exponent e above 0 and at most 4. It is worked out on
+ * whole numbers: no float is involved, and every machine and environment gives the same answers.
+ *
+ * - The exponent comes in one of two units. bg_power and bg_power_table take it in 65536ths: 65,536 is 1, 144,179 is
+ *   2.2 as nearly as can be, 262,144 is 4. bg_tag_power and bg_tag_power_table take it as the one entry of a gamma tag
+ *   has it, in 256ths: 256 is 1, 0x0233 = 563 is nearly 2.2. Entry k answers what 256 * k answers there, refusals too.
+ * - The answer n is within one of the curve: with p for the exponent in 65536ths,
+ *   (n-1)^65536 * 65535^p <= x^p * 65535^65536 <= (n+1)^65536 * 65535^p, where n-1 is 0 for an n of 0. Several n may
+ *   meet this. Which one is answered is fixed all the same: by crates/power_curve/specs/Curve.antt.
+ * - It is 0 at 0 and 65535 at 65535, and it never falls as x rises. So every table made here is nondecreasing, and
+ *   bg_accept grants it.
+ * - The exponent 1 (65,536, or a tag's 256) answers x itself, and its table is bg_start's: the straight curve.
+ *
+ * The curve's value is no lookup in a table of it: between two entries a lookup goes straight, and the curve does not.
+ */
+
+/* The density at x of the gamma curve with this exponent in 65536ths. Refused: 18 where it is outside 1 to 262,144. */
+bg_sample bg_power(bg_drive x, uint64_t exponent);
+
+/*
+ * A table of n entries of that curve: entry i is bg_power at entry i of the straight curve that bg_start makes of n
+ * entries. n stands beside the output's own length, and the two must be the same. Refused: 1 where n is below 2 or
+ * above 65,536; 18 where the exponent is outside 1 to 262,144; 6 where out_len is not n.
+ */
+uint32_t bg_power_table(uint16_t *out, size_t out_len, size_t n, uint64_t exponent);
+
+/* bg_power by a gamma tag's entry, in 256ths. Refused: 18 where it is outside 1 to 1,024. */
+bg_sample bg_tag_power(bg_drive x, uint16_t gamma);
+
+/*
+ * bg_power_table by a gamma tag's entry, in 256ths. A tag of one entry reads into a table of one by bg_curv_read, and
+ * that entry is the one to give here. Refused: 1 where n is below 2 or above 65,536; 18 where the entry is outside 1 to
+ * 1,024; 6 where out_len is not n.
+ */
+uint32_t bg_tag_power_table(uint16_t *out, size_t out_len, size_t n, uint16_t gamma);
 
 /* ---- ICC tags (crates curv, curv_reader, curv_part, curv_writer, para, para_curve and para_writer); tag_len counts bytes ---- */
 
