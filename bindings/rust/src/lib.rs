@@ -53,6 +53,20 @@
 //! # Ok::<(), Refusal>(())
 //! ```
 //!
+//! # A gamma tag
+//!
+//! A curv tag of one entry holds a gamma in place of a curve. [`tag_power_table`] works its curve out, on whole numbers, in as many entries as are asked for;
+//! [`power_table`] takes an exponent in 65536ths.
+//!
+//! ```
+//! let tag = *b"curv\0\0\0\0\0\0\0\x01\x02\x33";
+//! let (mut gamma, mut table) = ([0; 1], [0; 1024]);
+//! brassgroat::curv::read(&tag, &mut gamma)?;
+//! brassgroat::tag_power_table(&mut table, 1024, gamma[0])?;
+//! assert_eq!((gamma[0], table[512]), (0x0233, 14302));
+//! # Ok::<(), brassgroat::Refusal>(())
+//! ```
+//!
 //! # The archive
 //!
 //! `rt staticlib brassgroat`, run in the project's root, proves the library and writes target/staticlib/libbrassgroat.a, for x86-64 Linux. The build
@@ -77,6 +91,7 @@ mod log;
 mod lookups;
 pub mod para;
 mod parametrics;
+mod powers;
 mod raw;
 mod refusal;
 mod verdicts;
@@ -91,6 +106,7 @@ pub use inverses::{invert_lut, least_input, least_input_row, lut_inverse_interp1
 pub use log::{Log, Record};
 pub use lookups::{bake, lut_interp_linear_gamma_impl, lut_interp_linear16, lut_interp_linear16_row};
 pub use parametrics::{ParametricCurve, compare_parametric};
+pub use powers::{power, power_table, tag_power, tag_power_table};
 pub use refusal::Refusal;
 pub use verdicts::{Direction, Monotonic, is_curve_degenerated, is_curve_monotonic};
 pub use version::{VERSION, version};

@@ -135,6 +135,11 @@ unsafe extern "C" {
     pub safe fn bg_house_entry(index: usize) -> Sample;
     pub fn bg_house_fill(out: *mut u16, out_len: usize) -> u32;
 
+    pub safe fn bg_power(x: Drive, exponent: u64) -> Sample;
+    pub fn bg_power_table(out: *mut u16, out_len: usize, n: usize, exponent: u64) -> u32;
+    pub safe fn bg_tag_power(x: Drive, gamma: u16) -> Sample;
+    pub fn bg_tag_power_table(out: *mut u16, out_len: usize, n: usize, gamma: u16) -> u32;
+
     pub fn bg_curv_count(tag: *const u8, tag_len: usize) -> Count;
     pub fn bg_curv_read(tag: *const u8, tag_len: usize, out: *mut u16, out_len: usize) -> u32;
     pub fn bg_curv_part(tag: *const u8, tag_len: usize) -> Part;

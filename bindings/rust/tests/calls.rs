@@ -25,9 +25,10 @@ fn every_refusal_has_its_call() {
         full.nudge(&mut table, 1, Density(25)).unwrap_err(),
         Log::new().take_back(&mut table).unwrap_err(),
         full.take_back(&mut table[..1]).unwrap_err(),
+        power_table(&mut table, 3, 262_145).unwrap_err(),
     ];
     assert_eq!(refusals, *Refusal::ALL);
-    assert!(refusals.iter().zip((1..=13).chain(15..=17)).all(|(refusal, number)| refusal.number() == number));
+    assert!(refusals.iter().zip((1..=13).chain(15..=18)).all(|(refusal, number)| refusal.number() == number));
     assert_eq!(table, [10, 20, 30]);
     assert_eq!(tag[4..], *b"\x01\0\0\0\0\0\0\x01\x02\x33");
 }
@@ -38,7 +39,7 @@ fn a_number_without_a_name_is_carried() {
     for refusal in Refusal::ALL {
         assert_eq!(Refusal::of_number(refusal.number()), Some(*refusal));
     }
-    for number in [14, 18, 31, u32::MAX] {
+    for number in [14, 19, 31, u32::MAX] {
         let refusal = Refusal::of_number(number).unwrap();
         assert_eq!(refusal.number(), number);
         assert!(!Refusal::ALL.contains(&refusal));
@@ -161,6 +162,62 @@ fn what_a_free_place_holds_is_not_shown() {
     let mut log = filled(&mut table);
     assert_eq!(log.accept(&table), Ok(()));
     assert_eq!(format!("{log:?}"), "Log([])");
+}
+
+#[test]
+fn a_gamma_tag_becomes_a_curve() {
+    let tag = *b"curv\0\0\0\0\0\0\0\x01\x02\x33";
+    let (mut gamma, mut table, mut exact) = ([0; 1], [0; 1024], [0; 1024]);
+    assert_eq!(curv::read(&tag, &mut gamma), Ok(()));
+    assert_eq!(tag_power_table(&mut table, 1024, gamma[0]), Ok(()));
+    assert_eq!(power_table(&mut exact, 1024, 256 * 0x0233), Ok(()));
+    assert_eq!((table[0], table[512], table[1023]), (0, 14302, 65535));
+    assert_eq!(table, exact);
+    assert_eq!(accept(&table), Ok(()));
+    assert_eq!(tag_power_table(&mut table, 1024, 256), Ok(()));
+    assert_eq!(start(&mut exact), Ok(()));
+    assert_eq!(table, exact);
+}
+
+#[test]
+fn gamma_curves_have_their_values_and_refusals() {
+    for (x, exponent, n) in [
+        (0, 1, 0),
+        (1, 1, 65524),
+        (65535, 1, 65535),
+        (1, 65535, 2),
+        (65534, 65535, 65534),
+        (1, 65536, 1),
+        (1000, 98304, 124),
+        (49152, 131_072, 36865),
+        (65534, 163_840, 65533),
+        (16384, 262_144, 256),
+    ] {
+        assert_eq!(power(Drive(x), exponent), Ok(Density(n)), "{x} {exponent}");
+    }
+    assert_eq!(tag_power(Drive(1), 1), power(Drive(1), 256));
+    assert_eq!(tag_power(Drive(1), 1), Ok(Density(62757)));
+    assert_eq!(tag_power(Drive(65534), 1024), Ok(Density(65531)));
+    for exponent in [0, 262_145, 1 << 32, (1 << 32) + 65536, u64::MAX] {
+        assert_eq!(power(Drive(9), exponent), Err(Refusal::Exponent));
+    }
+    for gamma in [0, 1025, u16::MAX] {
+        assert_eq!(tag_power(Drive(9), gamma), Err(Refusal::Exponent));
+    }
+    let mut out = [7; 3];
+    for n in [0, 1, 65537, usize::MAX] {
+        assert_eq!(power_table(&mut out, n, 0), Err(Refusal::TableLength));
+        assert_eq!(tag_power_table(&mut out, n, 0), Err(Refusal::TableLength));
+    }
+    for n in [2, 4, 65536] {
+        assert_eq!(power_table(&mut out, n, 0), Err(Refusal::Exponent));
+        assert_eq!(tag_power_table(&mut out, n, 1025), Err(Refusal::Exponent));
+        assert_eq!(power_table(&mut out, n, 1), Err(Refusal::OutputLength));
+        assert_eq!(tag_power_table(&mut out, n, 1), Err(Refusal::OutputLength));
+    }
+    assert_eq!(out, [7; 3]);
+    assert_eq!(power_table(&mut out, 3, 131_072), Ok(()));
+    assert_eq!(out, [0, 16384, 65535]);
 }
 
 #[test]
