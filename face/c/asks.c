@@ -728,6 +728,40 @@ void ask_house_fill(buffer out)
     hold_output(bg_house_fill(ready(&out, want), out.count), want, &out);
 }
 
+void ask_power(uint16_t x, uint64_t exponent)
+{
+    at(ASK_power, NULL, NULL, NULL);
+    with(x);
+    with(exponent);
+    hold_sample(bg_power(drive(x), exponent), ref_power(drive(x), exponent));
+}
+
+void ask_power_table(buffer out, size_t n, uint64_t exponent)
+{
+    uint32_t want = ref_power_table(wanted, out.count, n, exponent);
+    at(ASK_power_table, &out, NULL, NULL);
+    with(n);
+    with(exponent);
+    hold_output(bg_power_table(ready(&out, want), out.count, n, exponent), want, &out);
+}
+
+void ask_tag_power(uint16_t x, uint16_t gamma)
+{
+    at(ASK_tag_power, NULL, NULL, NULL);
+    with(x);
+    with(gamma);
+    hold_sample(bg_tag_power(drive(x), gamma), ref_tag_power(drive(x), gamma));
+}
+
+void ask_tag_power_table(buffer out, size_t n, uint16_t gamma)
+{
+    uint32_t want = ref_tag_power_table(wanted, out.count, n, gamma);
+    at(ASK_tag_power_table, &out, NULL, NULL);
+    with(n);
+    with(gamma);
+    hold_output(bg_tag_power_table(ready(&out, want), out.count, n, gamma), want, &out);
+}
+
 void ask_curv_count(buffer tag)
 {
     bg_count w = ref_curv_count(tag.read, tag.count), g;

@@ -37,6 +37,10 @@
     X(is_curve_degenerated, 1 << 0 | 1 << 1) \
     X(house_entry, 1 << 0 | 1 << 3) \
     X(house_fill, 1 << 0 | 1 << 6) \
+    X(power, 1 << 0 | 1 << 18) \
+    X(power_table, 1 << 0 | 1 << 1 | 1 << 18 | 1 << 6) \
+    X(tag_power, 1 << 0 | 1 << 18) \
+    X(tag_power_table, 1 << 0 | 1 << 1 | 1 << 18 | 1 << 6) \
     X(curv_count, 1 << 0 | 1 << 8 | 1 << 9 | 1 << 10 | 1 << 1) \
     X(curv_read, 1 << 0 | 1 << 8 | 1 << 9 | 1 << 10 | 1 << 1 | 1 << 6) \
     X(curv_part, 1 << 0 | 1 << 8 | 1 << 9 | 1 << 10 | 1 << 1) \
@@ -124,6 +128,10 @@ void ask_is_curve_monotonic(buffer table, bool rising);
 void ask_is_curve_degenerated(buffer table);
 void ask_house_entry(size_t index);
 void ask_house_fill(buffer out);
+void ask_power(uint16_t x, uint64_t exponent);
+void ask_power_table(buffer out, size_t n, uint64_t exponent);
+void ask_tag_power(uint16_t x, uint16_t gamma);
+void ask_tag_power_table(buffer out, size_t n, uint16_t gamma);
 void ask_curv_count(buffer tag);
 void ask_curv_read(buffer tag, buffer out);
 void ask_curv_part(buffer tag);
@@ -144,6 +152,9 @@ extern const unsigned may_give[ASK_COUNT];
 /* The sweeps, with so many numbers of each class to be rounded; and so many calls at random, from a seed. */
 void sweeps(unsigned long numbers);
 void at_random(unsigned long calls, uint64_t from);
+
+/* Gamma curves of some telling exponents, and of so many others, held to document 02's bound by certified arithmetic. */
+void gammas(unsigned long exponents);
 
 /* Sittings with a log, of so many calls at random in all. */
 void sittings(unsigned long calls);

@@ -183,6 +183,7 @@ static const struct {
     {"parametric curves", parametrics, true},
     {"verdicts", verdicts, false},
     {"the house curve", house_curve, false},
+    {"gamma curves", powers, false},
     {"curv tags", curv_tags, false},
     {"para tags", para_tags, false},
     {"para tags as curves", para_curves, true},
@@ -204,7 +205,10 @@ static void by_hand(void)
     environments();
 }
 
-/* What is written by hand; `sweeps NUMBERS`, so many of each class; or `random CALLS SEED`. */
+/*
+ * What is written by hand; `sweeps NUMBERS`, so many of each class; `gammas EXPONENTS`, so many beside the telling ones;
+ * or `random CALLS SEED`.
+ */
 int main(int argc, char **argv)
 {
     setvbuf(stdout, NULL, _IOLBF, BUFSIZ);
@@ -212,10 +216,12 @@ int main(int argc, char **argv)
         by_hand();
     else if (argc == 3 && strcmp(argv[1], "sweeps") == 0)
         sweeps(strtoul(argv[2], NULL, 10));
+    else if (argc == 3 && strcmp(argv[1], "gammas") == 0)
+        gammas(strtoul(argv[2], NULL, 10));
     else if (argc == 4 && strcmp(argv[1], "random") == 0)
         at_random(strtoul(argv[2], NULL, 10), strtoull(argv[3], NULL, 10));
     else
-        stop("usage: tests [sweeps NUMBERS | random CALLS SEED]");
+        stop("usage: tests [sweeps NUMBERS | gammas EXPONENTS | random CALLS SEED]");
     printf("face: %lu expectations, %lu failed\n", expected, failed);
     return failed == 0 ? 0 : 1;
 }

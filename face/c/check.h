@@ -70,6 +70,7 @@ void para_curves(void);
 void para_tags(void);
 void parametrics(void);
 void ported_inverses(void);
+void powers(void);
 void rounded(void);
 void verdicts(void);
 void version(void);

@@ -618,6 +618,78 @@ static void any_house_fill(void)
     ask_house_fill(out);
 }
 
+/* An exponent in 65536ths: allowed, about its limits and about 1, such only if it is cut to 32 bits, or any. */
+static uint64_t any_exponent(void)
+{
+    switch (below(8)) {
+    case 0:
+        return word();
+    case 1:
+        return below(3);
+    case 2:
+        return 262143 + below(3);
+    case 3:
+        return 65535 + below(3);
+    case 4:
+        return (UINT64_C(1) << 32) + below(262145);
+    default:
+        return 1 + below(262144);
+    }
+}
+
+/* The same as a tag's entry. */
+static uint16_t any_gamma(void)
+{
+    switch (below(8)) {
+    case 0:
+        return half();
+    case 1:
+        return (uint16_t)below(3);
+    case 2:
+        return (uint16_t)(1023 + below(3));
+    case 3:
+        return (uint16_t)(255 + below(3));
+    default:
+        return (uint16_t)(1 + below(1024));
+    }
+}
+
+/* How many entries are asked for beside an output of so many: as many, or by chance others. */
+static size_t asked_for(size_t out_len)
+{
+    size_t n = about(out_len);
+    return one_in(32) ? n + ((size_t)1 << 32) : n;
+}
+
+static void any_power(void)
+{
+    uint16_t x = half();
+    uint64_t exponent = any_exponent();
+    ask_power(x, exponent);
+}
+
+static void any_power_table(void)
+{
+    buffer out = any_out(512, 2);
+    size_t n = asked_for(out.count);
+    uint64_t exponent = any_exponent();
+    ask_power_table(out, n, exponent);
+}
+
+static void any_tag_power(void)
+{
+    uint16_t x = half(), gamma = any_gamma();
+    ask_tag_power(x, gamma);
+}
+
+static void any_tag_power_table(void)
+{
+    buffer out = any_out(512, 2);
+    size_t n = asked_for(out.count);
+    uint16_t gamma = any_gamma();
+    ask_tag_power_table(out, n, gamma);
+}
+
 static void any_curv_count(void)
 {
     buffer tag = curv_tag();

@@ -85,12 +85,18 @@ bg_code ref_lut_interp_linear_gamma_impl(const uint16_t *table, size_t n, size_t
 
 /* ---- Working on a curve ---- */
 
+/* Entry i of the straight curve of n entries. */
+static uint16_t straight(uint64_t n, uint64_t i)
+{
+    return (uint16_t)((2 * 65535 * i + n - 1) / (2 * (n - 1)));
+}
+
 uint32_t ref_start(uint16_t *table, size_t n)
 {
     if (n < 2 || n > MOST)
         return 1;
-    for (uint64_t i = 0; i < n; i++)
-        table[i] = (uint16_t)((2 * 65535 * i + n - 1) / (2 * (n - 1)));
+    for (size_t i = 0; i < n; i++)
+        table[i] = straight(n, i);
     return 0;
 }
 
@@ -454,6 +460,69 @@ uint32_t ref_house_fill(uint16_t *out, size_t out_len)
         return 6;
     memcpy(out, house(), 2048);
     return 0;
+}
+
+/* ---- Gamma curves: document 02, (iv), by sixteen roots and whole steps ---- */
+
+/* The whole part of a square root, bit by bit from the highest: what is left is v less the square so far. */
+static uint64_t root_of(uint64_t v)
+{
+    uint64_t root = 0;
+    for (uint64_t bit = UINT64_C(1) << 62; bit > 0; bit >>= 2)
+        if (v >= root + bit) {
+            v -= root + bit;
+            root = (root >> 1) + bit;
+        } else {
+            root >>= 1;
+        }
+    return root;
+}
+
+/* The roots take the exponent's sixteen lower bits, the lowest first, and the whole steps its bits above them. */
+static uint16_t value_at(uint64_t x, uint64_t exponent)
+{
+    const uint64_t one = UINT64_C(65535) << 16, base = x << 16;
+    uint64_t a = one;
+    for (unsigned bit = 0; bit < 16; bit++)
+        a = root_of(a * (exponent >> bit & 1 ? base : one));
+    for (uint64_t step = exponent >> 16; step > 0; step--)
+        a = a * base / one;
+    return (uint16_t)((a + (exponent >> 16 == 0 ? 65535 : 32768)) >> 16);
+}
+
+static bool wrong_exponent(uint64_t exponent)
+{
+    return exponent == 0 || exponent > 4 * 65536;
+}
+
+bg_sample ref_power(bg_drive x, uint64_t exponent)
+{
+    if (wrong_exponent(exponent))
+        return (bg_sample){18, {0}};
+    return (bg_sample){0, {value_at(x.value, exponent)}};
+}
+
+uint32_t ref_power_table(uint16_t *out, size_t out_len, size_t n, uint64_t exponent)
+{
+    if (n < 2 || n > MOST)
+        return 1;
+    if (wrong_exponent(exponent))
+        return 18;
+    if (out_len != n)
+        return 6;
+    for (size_t i = 0; i < n; i++)
+        out[i] = value_at(straight(n, i), exponent);
+    return 0;
+}
+
+bg_sample ref_tag_power(bg_drive x, uint16_t gamma)
+{
+    return ref_power(x, 256 * (uint64_t)gamma);
+}
+
+uint32_t ref_tag_power_table(uint16_t *out, size_t out_len, size_t n, uint16_t gamma)
+{
+    return ref_power_table(out, out_len, n, 256 * (uint64_t)gamma);
 }
 
 /* ---- ICC tags ---- */

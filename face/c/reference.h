@@ -1,7 +1,7 @@
 /*
  * What every export should answer: the rules of documents 01 and 02 in plain C, written from their words and ICC.1 and
- * from nothing else. Each function takes what its export takes. A granted one writes its output; a refused one leaves
- * it.
+ * from nothing else, but for a gamma curve's value: document 02 leaves several, and the one here is the library's by
+ * its definition. Each function takes what its export takes. A granted one writes its output; a refused one leaves it.
  */
 #ifndef REFERENCE_H
 #define REFERENCE_H
@@ -46,6 +46,11 @@ bg_degeneration ref_is_curve_degenerated(const uint16_t *table, size_t n);
 
 bg_sample ref_house_entry(size_t index);
 uint32_t ref_house_fill(uint16_t *out, size_t out_len);
+
+bg_sample ref_power(bg_drive x, uint64_t exponent);
+uint32_t ref_power_table(uint16_t *out, size_t out_len, size_t n, uint64_t exponent);
+bg_sample ref_tag_power(bg_drive x, uint16_t gamma);
+uint32_t ref_tag_power_table(uint16_t *out, size_t out_len, size_t n, uint16_t gamma);
 
 bg_count ref_curv_count(const uint8_t *tag, size_t n);
 uint32_t ref_curv_read(const uint8_t *tag, size_t n, uint16_t *out, size_t out_len);

@@ -1,9 +1,9 @@
 /*
  * Sweeps: every ICC layout, each byte of each short tag changed in every way and every two of its head in some, every
  * length about a tag's own, counts at their limits, tags and calls that are wrong in two ways, outputs of every telling
- * length, logs of every count and with each bit of the last record changed, lengths past 2^32, and numbers rounded to
- * float against C's own cast. Where an answer stands here as a number, the reference is held to it, as the exports are
- * to the reference.
+ * length, gamma curves of every telling length and exponent, logs of every count and with each bit of the last record
+ * changed, lengths past 2^32, and numbers rounded to float against C's own cast. Where an answer stands here as a
+ * number, the reference is held to it, as the exports are to the reference.
  */
 #include "asks.h"
 #include "reference.h"
@@ -413,6 +413,48 @@ static void fillers(void)
     }
 }
 
+/* Tables of gamma curves: every n beside every length, with exponents that are allowed, and about the limits. */
+static void gamma_tables(void)
+{
+    static const uint64_t exponents[] = {0, 65535, 144128, 262145, (UINT64_C(1) << 32) + 65536};
+    static const uint16_t gammas[] = {0, 563, 1025, 65535};
+    for (size_t n = 0; n < TELLING_LENGTHS; n++)
+        for (size_t i = 0; i < TELLING_LENGTHS; i++) {
+            for (size_t k = 0; k < sizeof exponents / sizeof *exponents; k++)
+                ask_power_table(entries_out(telling_lengths[i]), telling_lengths[n], exponents[k]);
+            for (size_t k = 0; k < sizeof gammas / sizeof *gammas; k++)
+                ask_tag_power_table(entries_out(telling_lengths[i]), telling_lengths[n], gammas[k]);
+        }
+}
+
+/* Tables of every length up to 40, of exponents below 1, at 1 and above, so that every kind of ramp's step is met. */
+static void gamma_ramps(void)
+{
+    for (size_t n = 0; n <= 40; n++)
+        for (size_t k = 1; k <= 8; k++) {
+            ask_power_table(entries_out(n), n, k * 32768);
+            ask_tag_power_table(entries_out(n), n, (uint16_t)(k * 128));
+        }
+}
+
+/* Every exponent about a limit, about a whole one and about a power of two, and every entry that a tag may have. */
+static void gamma_exponents(void)
+{
+    static const uint16_t xs[] = {0, 1, 2, 255, 256, 32767, 32768, 65533, 65534, 65535};
+    enum { XS = sizeof xs / sizeof *xs };
+    for (uint64_t whole = 0; whole <= 5 * 65536; whole += 65536)
+        for (uint64_t near = 0; near <= 200; near++)
+            for (size_t i = 0; i < XS; i++)
+                ask_power(xs[i], whole + near - 100);
+    for (unsigned bit = 0; bit < 64; bit++)
+        for (uint64_t near = 0; near <= 2; near++)
+            for (size_t i = 0; i < XS; i++)
+                ask_power(xs[i], (UINT64_C(1) << bit) + near - 1);
+    for (uint32_t gamma = 0; gamma < 65536; gamma++)
+        for (size_t i = gamma < 1030 ? 0 : XS - 1; i < XS; i++)
+            ask_tag_power(xs[i], (uint16_t)gamma);
+}
+
 /* Fills a lent table: entry i of n is 65535 i / n, cut, or so much below 65535. */
 static buffer slope(buffer b, bool rising)
 {
@@ -654,6 +696,12 @@ static void vast(void)
         ask_is_curve_monotonic(table, true);
         ask_is_curve_degenerated(table);
         ask_curv_write(table, lent(OUT, 12 + 2 * more, 1));
+        ask_power_table(table, more, 65536);
+        ask_power_table(table, table.count, 65536);
+        ask_power_table(out, table.count, 65536);
+        ask_tag_power_table(table, more, 256);
+        ask_tag_power_table(table, table.count, 256);
+        ask_tag_power_table(out, table.count, 256);
     }
     ask_bake(two, lent_vast(65536, 2, rising, 8));
     ask_house_fill(lent_vast(1024, 2, rising, 8));
@@ -804,6 +852,9 @@ void sweeps(unsigned long of_each_class)
     subject("buffers of tags", buffers);
     subject("outputs of every length", outputs);
     subject("flat tables inverted", flat_inverses);
+    subject("tables of gamma curves, of every length", gamma_tables);
+    subject("tables of gamma curves, short ones", gamma_ramps);
+    subject("exponents about their limits", gamma_exponents);
     subject("logs of every count", log_counts);
     subject("logged nudges about a table's entries", log_nudges);
     subject("the last record, its bits changed", last_record_bits);
