@@ -28,7 +28,7 @@ use Rattle.parametric.proofs.Compare.{compare-one}
 use Rattle.monotonic.proofs.Promises.{monotonic-one}
 use Rattle.degeneration.proofs.Promises.{degenerated-one}
 use Rattle.house.proofs.Promises.{entry-one, fill-one}
-use Rattle.power_curve.proofs.Promises.{power-one, power-table-one, tag-power-one, tag-power-table-one}
+use Rattle.power_curve.proofs.Promises.{power-one, power-table-one}
 use Rattle.curv.proofs.Promises.{count-one}
 use Rattle.curv_reader.proofs.Promises as curv-reader
 use Rattle.curv_part.specs.Promises.{past}
@@ -207,10 +207,10 @@ pub bg-power-table-one : OneAnswerAndBuffer bg_power_table.Post first
 bg-power-table-one = one-both (λ κs a e f l m. power-table-one)
 
 pub bg-tag-power-one : OneAnswer bg_tag_power.Post
-bg-tag-power-one = one-answer (λ κs a l m. tag-power-one)
+bg-tag-power-one = one-answer (λ κs a l m. power-one)
 
 pub bg-tag-power-table-one : OneAnswerAndBuffer bg_tag_power_table.Post first
-bg-tag-power-table-one = one-both (λ κs a e f l m. tag-power-table-one)
+bg-tag-power-table-one = one-both (λ κs a e f l m. power-table-one)
 
 -- Tags.
 pub bg-count-one : OneAnswer bg_curv_count.Post

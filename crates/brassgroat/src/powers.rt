@@ -8,7 +8,8 @@ use power_curve::tag_power;
 use power_curve::tag_power_table;
 use table::Drive;
 ghost use Rattle.table.specs.Answers.{numberOfDone};
-ghost use Rattle.power_curve.specs.Promises.{PowerPromise, PowerTablePromise, TagPowerPromise, TagPowerTablePromise};
+ghost use Rattle.power_curve.specs.Curve.{exponentOf};
+ghost use Rattle.power_curve.specs.Promises.{PowerPromise, PowerTablePromise};
 ghost use Rattle.brassgroat.specs.Carried.{Carried};
 ghost use Rattle.plain_answers.specs.Answers.{asSample};
 
@@ -29,7 +30,7 @@ pub extern "C" fn bg_power_table(out: &mut [u16], n: usize, exponent: u64) -> u3
 
 #[no_mangle]
 pub extern "C" fn bg_tag_power(x: Drive, gamma: u16) -> Sample
-    ensures { λ r. ⌜ Carried asSample (TagPowerPromise x gamma) r ⌝ }
+    ensures { λ r. ⌜ Carried asSample (PowerPromise x (exponentOf gamma)) r ⌝ }
 {
     as_sample(tag_power(x, gamma))
 }
@@ -37,7 +38,7 @@ pub extern "C" fn bg_tag_power(x: Drive, gamma: u16) -> Sample
 #[no_mangle]
 pub extern "C" fn bg_tag_power_table(out: &mut [u16], n: usize, gamma: u16) -> u32
     ensures { λ r. ⌜ Carried numberOfDone (λ d.
-        TagPowerTablePromise (now (out .entry)) n gamma d (now (out .exit))) r ⌝ }
+        PowerTablePromise (now (out .entry)) n (exponentOf gamma) d (now (out .exit))) r ⌝ }
 {
     number_of_done(tag_power_table(out, n, gamma))
 }
