@@ -455,6 +455,26 @@ static void gamma_exponents(void)
             ask_tag_power(xs[i], (uint16_t)gamma);
 }
 
+/* Values at the brink: a step or a root that is rounded up, and so one 65536th more, makes each of them one more. */
+static void gamma_brinks(void)
+{
+    static const struct {
+        uint16_t x;
+        uint32_t exponent;
+        uint16_t value;
+    } brinks[] = {
+        {39033, 255, 65403}, {26342, 49152, 33083}, {65534, 65535, 65534}, {7028, 98304, 2301}, {65534, 98304, 65533},
+        {47777, 144128, 32705}, {49641, 144128, 35577}, {29666, 157286, 9780}, {65348, 163840, 65068},
+        {64326, 196608, 61974}, {35693, 262144, 5766},
+    };
+    for (size_t i = 0; i < sizeof brinks / sizeof *brinks; i++) {
+        EXPECT(ref_power(drive(brinks[i].x), brinks[i].exponent).density.value == brinks[i].value);
+        ask_power(brinks[i].x, brinks[i].exponent);
+        if (brinks[i].exponent % 256 == 0)
+            ask_tag_power(brinks[i].x, (uint16_t)(brinks[i].exponent / 256));
+    }
+}
+
 /* Fills a lent table: entry i of n is 65535 i / n, cut, or so much below 65535. */
 static buffer slope(buffer b, bool rising)
 {
@@ -855,6 +875,7 @@ void sweeps(unsigned long of_each_class)
     subject("tables of gamma curves, of every length", gamma_tables);
     subject("tables of gamma curves, short ones", gamma_ramps);
     subject("exponents about their limits", gamma_exponents);
+    subject("values at the brink", gamma_brinks);
     subject("logs of every count", log_counts);
     subject("logged nudges about a table's entries", log_nudges);
     subject("the last record, its bits changed", last_record_bits);

@@ -655,6 +655,199 @@ uint32_t __wrap_bg_house_fill(uint16_t *out, size_t out_len)
     return r;
 }
 
+/* ---- Gamma curves ---- */
+
+/* How a value may be worked out wrongly. */
+enum wrong { NOTHING, STEP_UP, ROOT_UP, FIFTEEN_ROOTS, FIRST_ROOT_LAST, CASES_EXCHANGED, NEAREST, CUT };
+
+static uint64_t root_of(uint64_t v, bool up)
+{
+    uint64_t root = 0;
+    for (uint64_t bit = UINT64_C(1) << 31; bit > 0; bit >>= 1)
+        if ((root + bit) * (root + bit) <= v)
+            root += bit;
+    return up && root * root < v ? root + 1 : root;
+}
+
+/* A gamma curve's value, worked out wrongly in one way. */
+static uint16_t odd_value(uint64_t x, uint64_t p, enum wrong wrong)
+{
+    const uint64_t one = UINT64_C(65535) * 65536, base = 65536 * x;
+    unsigned roots = wrong == FIFTEEN_ROOTS ? 15 : 16;
+    uint64_t a = one, h = p < 65536 ? 65535 : 32768;
+    for (unsigned k = 0; k < roots; k++) {
+        unsigned bit = wrong == FIRST_ROOT_LAST ? 15 - k : k;
+        a = root_of(a * (p >> bit & 1 ? base : one), wrong == ROOT_UP);
+    }
+    for (uint64_t step = p >> roots; step > 0; step--)
+        a = (a * base + (wrong == STEP_UP ? one - 1 : 0)) / one;
+    if (wrong == CASES_EXCHANGED)
+        h = 65535 + 32768 - h;
+    if (wrong == NEAREST)
+        h = 32768;
+    if (wrong == CUT)
+        h = 0;
+    return (uint16_t)((a + h) / 65536);
+}
+
+static bool is_exponent(uint64_t p)
+{
+    return p >= 1 && p <= 262144;
+}
+
+static uint16_t straight(uint64_t n, uint64_t i, bool cut)
+{
+    return (uint16_t)(cut ? 65535 * i / (n - 1) : (2 * 65535 * i + n - 1) / (2 * (n - 1)));
+}
+
+bg_sample __real_bg_power(bg_drive x, uint64_t exponent);
+bg_sample __wrap_bg_power(bg_drive x, uint64_t exponent)
+{
+    bg_sample s = __real_bg_power(x, exponent);
+    enum wrong wrong = SLIP("bg_power: a whole step is rounded up") ? STEP_UP
+                       : SLIP("bg_power: a root is rounded up") ? ROOT_UP
+                       : SLIP("bg_power: one root fewer") ? FIFTEEN_ROOTS
+                       : SLIP("bg_power: the roots take the highest bit first") ? FIRST_ROOT_LAST
+                       : SLIP("bg_power: the cases of the last rounding are exchanged") ? CASES_EXCHANGED
+                       : SLIP("bg_power: the nearest below 1 too") ? NEAREST
+                       : SLIP("bg_power: the last division is cut") ? CUT
+                                                                       : NOTHING;
+    if (wrong != NOTHING && s.refusal == 0)
+        return (bg_sample){0, {odd_value(x.value, exponent, wrong)}};
+    if (SLIP("bg_power: exponents to 65,600 round up as those below 1") && exponent > 65536 && exponent <= 65600)
+        return (bg_sample){0, {odd_value(x.value, exponent, CASES_EXCHANGED)}};
+    if (SLIP("bg_power: an exponent of 0 is let through") && exponent == 0)
+        return (bg_sample){0, {65535}};
+    if (SLIP("bg_power: 262,144 is refused") && exponent == 262144)
+        return (bg_sample){18, {0}};
+    if (SLIP("bg_power: 262,145 is let through") && exponent == 262145)
+        return (bg_sample){0, {odd_value(x.value, exponent, NOTHING)}};
+    if (SLIP("bg_power: the exponent is cut to 32 bits"))
+        return __real_bg_power(x, (uint32_t)exponent);
+    if (SLIP("bg_power: a refused answer has a density") && s.refusal == 18)
+        return (bg_sample){18, x.value == 0 ? (bg_density){0} : (bg_density){65535}};
+    if (SLIP("bg_power: the curve is read backwards"))
+        return __real_bg_power((bg_drive){(uint16_t)(65535 - x.value)}, exponent);
+    if (SLIP("bg_power: x and the exponent are exchanged"))
+        return __real_bg_power((bg_drive){(uint16_t)exponent}, x.value);
+    if (SLIP("bg_power: the exponent's last bit is lost") && exponent > 1)
+        return __real_bg_power(x, exponent & ~UINT64_C(1));
+    return s;
+}
+
+uint32_t __real_bg_power_table(uint16_t *out, size_t out_len, size_t n, uint64_t exponent);
+uint32_t __wrap_bg_power_table(uint16_t *out, size_t out_len, size_t n, uint64_t exponent)
+{
+    enum wrong wrong = SLIP("bg_power_table: a whole step is rounded up") ? STEP_UP
+                       : SLIP("bg_power_table: a root is rounded up") ? ROOT_UP
+                       : SLIP("bg_power_table: one root fewer") ? FIFTEEN_ROOTS
+                       : SLIP("bg_power_table: the cases of the last rounding are exchanged") ? CASES_EXCHANGED
+                       : SLIP("bg_power_table: the last division is cut") ? CUT
+                                                                             : NOTHING;
+    bool cut = SLIP("bg_power_table: the ramp by floor");
+    uint32_t r;
+    if (SLIP("bg_power_table: a longer output is let through") && n >= 2 && is_exponent(exponent) && out_len > n)
+        out_len = n;
+    if (SLIP("bg_power_table: a shorter output is let through") && n <= 65536 && out_len >= 2 && out_len < n)
+        n = out_len;
+    if (SLIP("bg_power_table: n is cut to 32 bits"))
+        n = (uint32_t)n;
+    if (SLIP("bg_power_table: the output's length is cut to 32 bits"))
+        out_len = (uint32_t)out_len;
+    if (SLIP("bg_power_table: the exponent is cut to 32 bits"))
+        exponent = (uint32_t)exponent;
+    r = __real_bg_power_table(out, out_len, n, exponent);
+    for (size_t i = 0; i < n && r == 0 && (wrong != NOTHING || cut); i++)
+        out[i] = odd_value(straight(n, i, cut), exponent, wrong);
+    if (SLIP("bg_power_table: 18 before 1") && r == 1 && !is_exponent(exponent))
+        return 18;
+    if (SLIP("bg_power_table: 6 before 1") && r == 1 && out_len != n)
+        return 6;
+    if (SLIP("bg_power_table: 6 before 18") && r == 18 && out_len != n)
+        return 6;
+    if (SLIP("bg_power_table: an exponent of 0 is let through") && r == 18 && exponent == 0 && out_len == n)
+        return 0;
+    if (SLIP("bg_power_table: 262,144 is refused") && r == 0 && exponent == 262144)
+        return 18;
+    if (SLIP("bg_power_table: 65,536 entries are refused") && r == 0 && n == 65536)
+        return 1;
+    if (SLIP("bg_power_table: 65,537 entries are let through") && r == 1 && n == 65537 && out_len == n)
+        return 0;
+    if (SLIP("bg_power_table: one entry is let through") && r == 1 && n == 1 && is_exponent(exponent) && out_len == n)
+        return 0;
+    if (SLIP("bg_power_table: a refused call writes its first entry") && r != 0 && out_len > 0)
+        out[0] = 0;
+    if (SLIP("bg_power_table: a refused output of another length is written") && r == 6 && out_len > 2)
+        out[out_len - 1] = 65535;
+    if (SLIP("bg_power_table: the last entry is not written") && r == 0)
+        out[n - 1] = 0x5a5a;
+    if (SLIP("bg_power_table: one entry too many is written") && r == 0)
+        out[n] = 65535;
+    if (SLIP("bg_power_table: the entry before the output is written") && r == 0)
+        out[-1] = 0;
+    return r;
+}
+
+bg_sample __real_bg_tag_power(bg_drive x, uint16_t gamma);
+bg_sample __wrap_bg_tag_power(bg_drive x, uint16_t gamma)
+{
+    bg_sample s = __real_bg_tag_power(x, gamma);
+    if (SLIP("bg_tag_power: 255 for 256"))
+        return __real_bg_power(x, 255 * (uint64_t)gamma);
+    if (SLIP("bg_tag_power: the entry is taken for 65536ths"))
+        return __real_bg_power(x, gamma);
+    if (SLIP("bg_tag_power: the entry's bytes are swapped"))
+        return __real_bg_tag_power(x, (uint16_t)(gamma << 8 | gamma >> 8));
+    if (SLIP("bg_tag_power: the exponent is cut to 16 bits") && s.refusal == 0)
+        return __real_bg_power(x, (uint16_t)(256 * gamma));
+    if (SLIP("bg_tag_power: 0 is the straight curve") && gamma == 0)
+        return (bg_sample){0, {x.value}};
+    if (SLIP("bg_tag_power: 1,024 is refused") && gamma == 1024)
+        return (bg_sample){18, {0}};
+    if (SLIP("bg_tag_power: 1,025 is let through") && gamma == 1025)
+        return (bg_sample){0, {odd_value(x.value, 256 * 1025, NOTHING)}};
+    if (SLIP("bg_tag_power: a root is rounded up") && s.refusal == 0)
+        return (bg_sample){0, {odd_value(x.value, 256 * (uint64_t)gamma, ROOT_UP)}};
+    if (SLIP("bg_tag_power: a whole step is rounded up") && s.refusal == 0)
+        return (bg_sample){0, {odd_value(x.value, 256 * (uint64_t)gamma, STEP_UP)}};
+    return s;
+}
+
+uint32_t __real_bg_tag_power_table(uint16_t *out, size_t out_len, size_t n, uint16_t gamma);
+uint32_t __wrap_bg_tag_power_table(uint16_t *out, size_t out_len, size_t n, uint16_t gamma)
+{
+    uint32_t r;
+    if (SLIP("bg_tag_power_table: 255 for 256"))
+        return __real_bg_power_table(out, out_len, n, 255 * (uint64_t)gamma);
+    if (SLIP("bg_tag_power_table: the entry is taken for 65536ths"))
+        return __real_bg_power_table(out, out_len, n, gamma);
+    if (SLIP("bg_tag_power_table: 0 is the straight curve") && gamma == 0)
+        return __real_bg_power_table(out, out_len, n, 65536);
+    if (SLIP("bg_tag_power_table: the entry's bytes are swapped"))
+        gamma = (uint16_t)(gamma << 8 | gamma >> 8);
+    if (SLIP("bg_tag_power_table: a longer output is let through") && n >= 2 && gamma >= 1 && gamma <= 1024 &&
+        out_len > n)
+        out_len = n;
+    if (SLIP("bg_tag_power_table: n is cut to 32 bits"))
+        n = (uint32_t)n;
+    r = __real_bg_tag_power_table(out, out_len, n, gamma);
+    for (size_t i = 0; i < n && r == 0 && SLIP("bg_tag_power_table: the ramp by floor"); i++)
+        out[i] = odd_value(straight(n, i, true), 256 * (uint64_t)gamma, NOTHING);
+    if (SLIP("bg_tag_power_table: 18 before 1") && r == 1 && (gamma == 0 || gamma > 1024))
+        return 18;
+    if (SLIP("bg_tag_power_table: 6 before 18") && r == 18 && out_len != n)
+        return 6;
+    if (SLIP("bg_tag_power_table: 1,024 is refused") && r == 0 && gamma == 1024)
+        return 18;
+    if (SLIP("bg_tag_power_table: 1,025 is let through") && r == 18 && gamma == 1025 && out_len == n)
+        return 0;
+    if (SLIP("bg_tag_power_table: a refused call writes its last entry") && r != 0 && out_len > 0)
+        out[out_len - 1] = 65535;
+    if (SLIP("bg_tag_power_table: the last entry is not written") && r == 0)
+        out[n - 1] = 0x5a5a;
+    return r;
+}
+
 uint32_t __real_bg_version(void);
 uint32_t __wrap_bg_version(void)
 {
