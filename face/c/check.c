@@ -206,8 +206,8 @@ static void by_hand(void)
 }
 
 /*
- * What is written by hand; `sweeps NUMBERS`, so many of each class; `gammas EXPONENTS`, so many beside the telling ones;
- * or `random CALLS SEED`.
+ * What is written by hand; `sweeps NUMBERS`, so many of each class; `gammas EXPONENTS`, so many beside the telling
+ * ones; or `random CALLS SEED`.
  */
 int main(int argc, char **argv)
 {

@@ -14,7 +14,7 @@
  * n-1 or n+1 is x, or where x is M and n-1 or n+1 is M. For M = 3 * 5 * 17 * 257 has no square in it, and an x between
  * 0 and M lacks one of these factors, so of that factor the two sides have different powers.
  *
- * face/test has few exponents beside the telling ones. For some hundreds: face/test 300000 1 200000 300.
+ * face/test has few exponents beside the telling ones, and some hundreds by: face/test 300000 1 200000 300.
  */
 #include "asks.h"
 
