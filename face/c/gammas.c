@@ -143,9 +143,9 @@ static void each_curve(void)
     static const uint32_t telling[] = {1, 65535, 65536, 65537, 131072, 144128, 163840, 262144};
     for (size_t i = 0; i < sizeof telling / sizeof *telling; i++)
         hold_curve(telling[i]);
-    /* as many below 2 as between 2 and 4, and so on for each half */
+    /* half of them any, and half with few binary digits or many, so that small ones are met too */
     for (unsigned long i = 0; i < more_exponents; i++) {
-        size_t bits = below(19), p = 1 + below((size_t)1 << bits);
+        size_t digits = below(19), p = 1 + below((size_t)1 << (i % 2 == 0 ? 18 : digits));
         hold_curve(p);
     }
 }
