@@ -66,7 +66,7 @@ enum bg_refusal {
     BG_LOG_FULL = 15,           /* BG_LOG_PLACES nudges stand in the log */
     BG_NOTHING_TO_TAKE_BACK = 16, /* no nudge stands in the log */
     BG_BAD_LOG = 17,            /* the count is above BG_LOG_PLACES, or the nudge to take back is not this table's */
-    BG_EXPONENT = 18            /* a gamma curve's exponent is 0 or above 4: outside 1 to 262,144, or of a tag 1 to 1,024 */
+    BG_EXPONENT = 18            /* a gamma curve's exponent is outside 1 to 262,144, or by a tag's entry 1 to 1,024 */
 };
 
 /* A position, and a sample. */

@@ -153,7 +153,7 @@ extern const unsigned may_give[ASK_COUNT];
 void sweeps(unsigned long numbers);
 void at_random(unsigned long calls, uint64_t from);
 
-/* Gamma curves of some telling exponents, and of so many others, held to document 02's bound by certified arithmetic. */
+/* Gamma curves of some telling exponents, and of so many others, held to their bound by certified arithmetic. */
 void gammas(unsigned long exponents);
 
 /* Sittings with a log, of so many calls at random in all. */

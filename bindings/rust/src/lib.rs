@@ -55,8 +55,8 @@
 //!
 //! # A gamma tag
 //!
-//! A curv tag of one entry holds a gamma in place of a curve. [`tag_power_table`] works its curve out, on whole numbers, in as many entries as are asked for;
-//! [`power_table`] takes an exponent in 65536ths.
+//! A curv tag of one entry holds a gamma in place of a curve. [`tag_power_table`] works its curve out, on whole
+//! numbers, in as many entries as are asked for; [`power_table`] takes an exponent in 65536ths.
 //!
 //! ```
 //! let tag = *b"curv\0\0\0\0\0\0\0\x01\x02\x33";

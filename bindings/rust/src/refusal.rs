@@ -17,8 +17,8 @@ use core::fmt;
 #[non_exhaustive]
 #[derive(Clone, Copy, Debug, PartialEq, Eq, Hash)]
 pub enum Refusal {
-    /// The table's length is 0 or above 65,536; of [`start`](crate::start) and of a gamma curve's table, below 2 or above;
-    /// of calls that say so, only above.
+    /// The table's length is 0 or above 65,536; of [`start`](crate::start) and of a gamma curve's table, below 2 or
+    /// above; of calls that say so, only above.
     TableLength,
     /// An entry of the table is below the one before it.
     NotNondecreasing,
@@ -51,8 +51,8 @@ pub enum Refusal {
     /// The last nudge in the [`Log`](crate::Log) does not go with the table: it was made on another one, or the table
     /// was changed since by other means.
     BadLog,
-    /// The exponent of a gamma curve is 0 or above 4: in 65536ths, outside 1 to 262,144; as a gamma tag's entry, outside
-    /// 1 to 1,024.
+    /// The exponent of a gamma curve is 0 or above 4: in 65536ths, outside 1 to 262,144; as a gamma tag's entry,
+    /// outside 1 to 1,024.
     Exponent,
     /// A number that this version has no name for, from an archive that is newer than the crate.
     #[non_exhaustive]
@@ -142,7 +142,7 @@ impl fmt::Display for Refusal {
             Refusal::LogFull => "the log is full: take a nudge back, or start or accept anew, which empties it",
             Refusal::NothingToTakeBack => "no nudge stands in the log: there is nothing to take back",
             Refusal::BadLog => "the log's last nudge does not go with this table: lend its own, or accept this one",
-            Refusal::Exponent => "the exponent is 0 or above 4: give 1 to 262,144 65536ths, or a gamma tag's entry of 1 to 1,024",
+            Refusal::Exponent => "the exponent is 0 or above 4: give 1 to 262,144, or a tag's entry of 1 to 1,024",
             Refusal::Unnamed(number) => return write!(f, "refused with {number}, which this version has no name for: see the archive's own header"),
         })
     }
