@@ -1,8 +1,8 @@
 /* The benchmark's program. It measures nothing before it has seen that both sides give the same answers.
    usage, on a curve of N entries:
           bench check N                 compares the answers of all sides; how far Little CMS's lookups are from ours
-          bench time N                  call, side, N, nanoseconds for each answer
-          bench list N                  call, side, N, two counts, and the answers that lie between them
+          bench time N CALL..           call, side, N, nanoseconds for each answer; of all calls where none is named
+          bench list N CALL..           call, side, N, two counts, and the answers that lie between them; likewise
           bench count N CALL SIDE COUNT does the work once, for a counter of instructions around it */
 #include "brassgroat.h"
 #include "questions.h"
@@ -243,19 +243,30 @@ static void time_call(const struct call *call, struct work *work) {
                1e9 * best[i] / (double)(call->timed * answers(call, work->n)));
 }
 
-static void time_all(size_t n) {
+/* Whether the call is among the names, which end with NULL. No name stands for all calls. */
+static bool named(const struct call *call, char **names) {
+    if (!*names)
+        return true;
+    for (; *names; names++)
+        if (strcmp(call->name, *names) == 0)
+            return true;
+    return false;
+}
+
+static void time_all(size_t n, char **names) {
     struct work work = prepared(n, QUESTIONS);
     bake_curve(&work);
     for (size_t i = 0; i < COUNT_OF(CALLS); i++)
-        time_call(&CALLS[i], &work);
+        if (named(&CALLS[i], names))
+            time_call(&CALLS[i], &work);
 }
 
-static void list(size_t n) {
+static void list(size_t n, char **names) {
     struct work work = prepared(n, COUNTED);
     for (size_t i = 0; i < COUNT_OF(CALLS); i++) {
         const struct call *call = &CALLS[i];
         struct side sides[MOST_SIDES];
-        size_t count = sides_of(call, &work, sides);
+        size_t count = named(call, names) ? sides_of(call, &work, sides) : 0;
         for (size_t s = 0; s < count; s++)
             printf("%s %s %zu %zu %zu %zu\n", call->name, sides[s].who, n, call->few, call->more,
                    (call->more - call->few) * answers(call, n));
@@ -283,15 +294,16 @@ static void count_one(size_t n, const char *name, const char *who, size_t count)
 int main(int words, char **word) {
     size_t n = words < 3 ? 0 : strtoul(word[2], NULL, 10);
     if (n < 3 || 65536 < n) {
-        fputs("usage: bench check | time | list N, or bench count N CALL SIDE COUNT; N from 3 to 65536\n", stderr);
+        fputs("usage: bench check N, bench time | list N CALL.., or bench count N CALL SIDE COUNT; N from 3 to 65536\n",
+              stderr);
         return 2;
     }
     if (strcmp(word[1], "check") == 0)
         check(n);
     else if (strcmp(word[1], "time") == 0)
-        time_all(n);
+        time_all(n, word + 3);
     else if (strcmp(word[1], "list") == 0)
-        list(n);
+        list(n, word + 3);
     else if (words == 6)
         count_one(n, word[3], word[4], strtoul(word[5], NULL, 10));
     return 0;
