@@ -24,6 +24,12 @@ BEGIN {
     label["float"] = "`lut_interp_linear_float`"
     label["linear"] = "`lut_interp_linear`"
     label["loop"] = "the loop around single calls, by itself"
+    gammas = split("power tag-power power-table tag-power-table", gamma, " ")
+    label["power"] = "one value, exponent 144179/65536"
+    label["tag-power"] = "one value, a gamma tag's 563/256"
+    label["power-table"] = "a table, each entry, exponent 144179/65536"
+    label["tag-power-table"] = "a table, each entry, a gamma tag's 563/256"
+    of_tables["accept"] = of_tables["power-table"] = of_tables["tag-power-table"] = 1
 }
 
 {
@@ -71,6 +77,34 @@ function table(kind, title,    c, s) {
             row(kind, call[c], size[s])
 }
 
+function gamma_row(kind, name, n, shown_n,    ours, libc, lcms) {
+    ours = at(kind, name, "ours", n)
+    if (ours == "") return
+    libc = at(kind, name, "libc", n)
+    lcms = at(kind, name, "lcms", n)
+    printf "| %s | %s | %s | %s | %s | %s | %s |\n", label[name], shown_n, shown(ours), shown(libc), shown(lcms), \
+        ratio(ours, libc), ratio(ours, lcms)
+}
+
+# One value has no n: the sizes only draw other questions, and that of the targets stands for all.
+function gamma_rows(kind, name,    s) {
+    if (!(name in of_tables)) {
+        gamma_row(kind, name, 1024, "")
+        return
+    }
+    for (s = 1; s <= sizes; s++)
+        gamma_row(kind, name, size[s], thousands[size[s]])
+}
+
+function gamma_table(kind, title,    c) {
+    if (!have[kind]) return
+    printf "\n### %s\n\n", title
+    print "| what | n | ours | the C library's `pow` | Little CMS | ours to `pow` | ours to Little CMS |"
+    print "|---|---|---|---|---|---|---|"
+    for (c = 1; c <= gammas; c++)
+        gamma_rows(kind, gamma[c])
+}
+
 function judged(x, most) { return x == "" || most == "" || x + 0 <= most + 0 ? x : "**" x "**" }
 
 function judged_ratio(kind, name, side, most) {
@@ -86,9 +120,16 @@ function target_more(words, name, less, most) {
     printf "| %s | %s | %s |  |\n", words, most, judged(shown(whole_less(name, less, 1024)), most)
 }
 
+# Nanoseconds of a whole call, its instructions beside them.
+function target_whole(words, name, most) {
+    printf "| %s | %s | %s | %s |\n", words, most, shown(whole("instructions", name, 1024)), \
+        judged(shown(whole("ns", name, 1024)), most)
+}
+
 function targets() {
     print "\n### Targets, at n = 1,024\n"
-    print "Ratios, ours to the other's, and in the last line instructions; in bold where the target is missed.\n"
+    print "Ratios, ours to the other's; of a logged nudge instructions, and of gamma curves nanoseconds, beside their"
+    print "instructions. In bold where the target is missed.\n"
     print "| what | at most | instructions | ns |"
     print "|---|---|---|---|"
     target("a row on the baked table, to the Rust's row", "baked-row", "inlined", "0.20")
@@ -103,6 +144,8 @@ function targets() {
     target("one lookup, to the Rust's", "lookup", "called", "")
     target("a row of lookups, to the Rust's row", "row", "inlined", "")
     target_more("one logged nudge, less one nudge", "log-nudge", "nudge", "30")
+    target_whole("one value of a gamma curve, exponent 144179/65536, in ns", "power", "1000")
+    target_whole("a gamma curve's table of 1,024 entries, the same exponent, in ns", "power-table", "1000000")
 }
 
 # A line of whole calls; less is the call whose cost is taken off, or nothing.
@@ -114,13 +157,13 @@ function growth(words, name, less,    s) {
 }
 
 function whole_less(name, less, n,    x) {
-    x = whole(name, n)
-    return x == "" || less == "" ? x : x - whole(less, n)
+    x = whole("instructions", name, n)
+    return x == "" || less == "" ? x : x - whole("instructions", less, n)
 }
 
-function whole(name, n,    x) {
-    x = at("instructions", name, "ours", n)
-    return x == "" || name != "accept" ? x : x * n
+function whole(kind, name, n,    x) {
+    x = at(kind, name, "ours", n)
+    return x == "" || !(name in of_tables) ? x : x * n
 }
 
 function growths() {
@@ -147,4 +190,6 @@ END {
     growths()
     table("instructions", "Executed instructions for each answer")
     table("ns", "Nanoseconds for each answer, the best of many rounds")
+    gamma_table("instructions", "Gamma curves: executed instructions for each answer")
+    gamma_table("ns", "Gamma curves: nanoseconds for each answer, the best of many rounds")
 }

@@ -1,6 +1,6 @@
 /* The benchmark's program. It measures nothing before it has seen that both sides give the same answers.
    usage, on a curve of N entries:
-          bench check N                 compares the answers of all sides; how far Little CMS's lookups are from ours
+          bench check N                 compares the answers of all sides; how far Little CMS's are from ours
           bench time N CALL..           call, side, N, nanoseconds for each answer; of all calls where none is named
           bench list N CALL..           call, side, N, two counts, and the answers that lie between them; likewise
           bench count N CALL SIDE COUNT does the work once, for a counter of instructions around it */
@@ -49,6 +49,10 @@ static const struct call CALLS[] = {
     {"linear", ONE, QUESTIONS, 1000, COUNTED},
     {"row-of-one", ONE, QUESTIONS, 1000, COUNTED},
     {"least-row-of-one", ONE, 1024, 10, 40},
+    {"power", ONE, QUESTIONS, 1000, COUNTED},
+    {"tag-power", ONE, QUESTIONS, 1000, COUNTED},
+    {"power-table", EVERY_ENTRY, 1, 1, 2},
+    {"tag-power-table", EVERY_ENTRY, 1, 1, 2},
 };
 
 #define COUNT_OF(list) (sizeof(list) / sizeof *(list))
@@ -58,6 +62,7 @@ static const struct side *const SIDES[] = {
 #ifdef WITH_RUST
     rust_sides,
 #endif
+    libc_sides,
 #ifdef WITH_LCMS
     lcms_sides,
 #endif
@@ -93,12 +98,20 @@ static struct work prepared(size_t n, size_t questions) {
     return work;
 }
 
+/* Whether Little CMS does a call at this work: it takes no table so long as our longest, and gives its gamma curves one
+   length. */
+static bool lcms_does(const char *call, const struct work *work) {
+    if (strcmp(call, "power-table") == 0 || strcmp(call, "tag-power-table") == 0)
+        return work->n == LCMS_GAMMA_ENTRIES;
+    return work->lcms_curve;
+}
+
 /* The sides of a call at this work, ours first. */
 static size_t sides_of(const struct call *call, const struct work *work, struct side found[MOST_SIDES]) {
     size_t count = 0;
     for (size_t i = 0; i < COUNT_OF(SIDES); i++)
         for (const struct side *side = SIDES[i]; side->call; side++) {
-            bool able = strcmp(side->who, "lcms") != 0 || work->lcms_curve;
+            bool able = strcmp(side->who, "lcms") != 0 || lcms_does(side->call, work);
             if (able && strcmp(side->call, call->name) == 0)
                 found[count++] = *side;
         }
@@ -176,7 +189,67 @@ static void check_fall(struct work *work) {
     *late = kept;
 }
 
+/* Ours is within one of the curve, and pow's value is the nearest to it: at every x the two are at most 1 apart. */
+static void check_power(size_t exponent, const struct work *work) {
+    double gamma = (double)exponent / 65536.0;
+    for (size_t i = 0; i < POSITIONS; i++) {
+        uint16_t x = (uint16_t)i;
+        bg_sample ours = bg_power((bg_drive){x}, exponent);
+        if (ours.refusal != BG_DONE || 1 < abs(ours.density.value - libc_value(x, gamma)))
+            give_up("not within 1 of pow's", "power", work->n);
+    }
+}
+
+/* What a gamma tag's entry answers is what its exponent answers. */
+static void check_tag_power(uint16_t entry, const struct work *work) {
+    for (size_t i = 0; i < POSITIONS; i++) {
+        bg_drive x = {(uint16_t)i};
+        bg_sample ours = bg_tag_power(x, entry);
+        if (ours.refusal != BG_DONE || ours.density.value != bg_power(x, 256 * (uint64_t)entry).density.value)
+            give_up("not what its exponent answers", "tag-power", work->n);
+    }
+}
+
+/* A table of a gamma curve has its values at the entries of the straight curve. */
+static void check_power_table(const char *name, size_t exponent, struct work *work) {
+    const struct call call = {.name = name};
+    struct side sides[MOST_SIDES];
+    sides_of(&call, work, sides);
+    work->count = 1;
+    if (sides[0].run(work) != BG_DONE)
+        give_up("refused", name, work->n);
+    for (size_t i = 0; i < work->n; i++)
+        if (work->out[i] != bg_power((bg_drive){work->straight[i]}, exponent).density.value)
+            give_up("not the values at the straight curve", name, work->n);
+}
+
+static void check_gammas(struct work *work) {
+    check_power(EXPONENT, work);
+    check_power(256 * GAMMA_ENTRY, work);
+    check_tag_power(GAMMA_ENTRY, work);
+    check_power_table("power-table", EXPONENT, work);
+    check_power_table("tag-power-table", 256 * GAMMA_ENTRY, work);
+}
+
 #ifdef WITH_LCMS
+static int furthest_apart(const uint16_t *some, const uint16_t *others, size_t count) {
+    int furthest = 0;
+    for (size_t i = 0; i < count; i++)
+        if (furthest < abs(some[i] - others[i]))
+            furthest = abs(some[i] - others[i]);
+    return furthest;
+}
+
+/* Little CMS asks pow at i/4095 itself; our entry i, and that of pow's loop, is at the drive nearest to it. */
+static void compare_lcms_gamma(size_t exponent, struct work *work) {
+    static uint16_t theirs[POSITIONS];
+    size_t entries = lcms_gamma((double)exponent / 65536.0, theirs);
+    if (entries != LCMS_GAMMA_ENTRIES || bg_power_table(work->out, entries, entries, exponent) != BG_DONE)
+        give_up("another number of entries", "cmsBuildGamma", entries);
+    printf("Little CMS's gamma curve of exponent %zu/65536 has %zu entries, which are at most %d from ours.\n",
+           exponent, entries, furthest_apart(theirs, work->out, entries));
+}
+
 /* Little CMS rounds in its own way: how far its lookups are from ours at most shows that it does the same work. */
 static void compare_lcms(struct work *work) {
     int furthest = 0;
@@ -190,6 +263,10 @@ static void compare_lcms(struct work *work) {
                furthest);
     else
         printf("Little CMS takes no curve of %zu entries.\n", work->n);
+    if (work->n == LCMS_GAMMA_ENTRIES) {
+        compare_lcms_gamma(EXPONENT, work);
+        compare_lcms_gamma(256 * GAMMA_ENTRY, work);
+    }
 }
 #endif
 
@@ -203,6 +280,7 @@ static void check(size_t n) {
         check_call(&CALLS[i], &work);
     check_least(&work);
     check_fall(&work);
+    check_gammas(&work);
 #ifdef WITH_LCMS
     compare_lcms(&work);
 #endif

@@ -142,6 +142,34 @@ static uint64_t linear(const struct work *work) {
     return sum;
 }
 
+static uint64_t power(const struct work *work) {
+    uint64_t sum = 0;
+    for (size_t i = 0; i < work->count; i++)
+        sum += bg_power((bg_drive){work->asked[i]}, EXPONENT).density.value;
+    return sum;
+}
+
+static uint64_t tag_power(const struct work *work) {
+    uint64_t sum = 0;
+    for (size_t i = 0; i < work->count; i++)
+        sum += bg_tag_power((bg_drive){work->asked[i]}, GAMMA_ENTRY).density.value;
+    return sum;
+}
+
+static uint64_t power_table(const struct work *work) {
+    uint64_t sum = 0;
+    for (size_t i = 0; i < work->count; i++)
+        sum += bg_power_table(work->out, work->n, work->n, EXPONENT);
+    return sum;
+}
+
+static uint64_t tag_power_table(const struct work *work) {
+    uint64_t sum = 0;
+    for (size_t i = 0; i < work->count; i++)
+        sum += bg_tag_power_table(work->out, work->n, work->n, GAMMA_ENTRY);
+    return sum;
+}
+
 const struct side our_sides[] = {
     {"loop", "ours", true, loop},
     {"lookup", "ours", true, lookup},
@@ -163,5 +191,9 @@ const struct side our_sides[] = {
     {"linear", "ours", true, linear},
     {"row-of-one", "ours", true, row_of_one},
     {"least-row-of-one", "ours", true, least_row_of_one},
+    {"power", "ours", true, power},
+    {"tag-power", "ours", true, tag_power},
+    {"power-table", "ours", true, power_table},
+    {"tag-power-table", "ours", true, tag_power_table},
     {0},
 };

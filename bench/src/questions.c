@@ -71,6 +71,7 @@ struct work work_of(size_t n, size_t questions) {
     uint64_t state = n;
     struct work work = {.n = n};
     work.table = room(n * sizeof *work.table);
+    work.straight = room(n * sizeof *work.straight);
     work.floats = room(n * sizeof *work.floats);
     work.baked = room(POSITIONS * sizeof *work.baked);
     work.tag = room(TAG_HEAD + 2 * n);
@@ -83,8 +84,10 @@ struct work work_of(size_t n, size_t questions) {
     work.out_wide = room(QUESTIONS * sizeof *work.out_wide);
     work.out_tag = room(TAG_HEAD + 2 * n);
     draw_curve(work.table, n, &state);
-    for (size_t i = 0; i < n; i++)
+    for (size_t i = 0; i < n; i++) {
         work.floats[i] = (float)work.table[i] / 65535.0f;
+        work.straight[i] = (uint16_t)((131070 * i + n - 1) / (2 * n - 2));
+    }
     put_tag(work.tag, work.table, n);
     draw_questions(&work, questions, &state);
     fill_log(&work);
