@@ -3,6 +3,7 @@
 // that asks a list of questions is a row, a case of `Question` and an arm of `put_answer`.
 mod floats;
 mod logs;
+mod powers;
 mod questions;
 mod tables;
 
@@ -29,6 +30,10 @@ pub fn answer(
         return here;
     }
     here = questions::answer(here, io, codes, table, floats);
+    if here.met {
+        return here;
+    }
+    here = powers::answer(here, io, codes, table, floats);
     if here.met {
         return here;
     }

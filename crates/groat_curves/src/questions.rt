@@ -41,6 +41,8 @@ use inverse::lut_inverse_interp16;
 use least::least_input;
 use least_row::least_input_row;
 use lookup::lut_interp_linear16;
+use power_curve::power;
+use power_curve::tag_power;
 use rounding::nearest_f64_to_f32;
 use rounding::s15_fixed16_number_to_float;
 use rounding::u8_fixed_8number_to_float;
@@ -63,6 +65,10 @@ pub enum Question {
     Fixed8,
     Raw16,
     Narrow,
+    // of an exponent in 65536ths
+    Power(u64),
+    // of a gamma tag's entry
+    TagPower(u16),
 }
 
 // A question, how its items are written, `gamma`'s N and DEPTH, and how many items have been answered.
@@ -359,6 +365,8 @@ fn put_answer(
         Question::Fixed8 => put_float(s, io, u8_fixed_8number_to_float(short(code))),
         Question::Raw16 => put_float(s, io, s15_fixed16_number_to_float(raw(code))),
         Question::Narrow => put_float(s, io, nearest_f64_to_f32(double(code))),
+        Question::Power(exponent) => put_looked(s, io, power(Drive(short(code)), exponent)),
+        Question::TagPower(gamma) => put_looked(s, io, tag_power(Drive(short(code)), gamma)),
     }
 }
 
