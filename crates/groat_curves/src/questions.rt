@@ -53,12 +53,13 @@ use table::Looked;
 use table::Refusal;
 use table::Sought;
 
-// What is asked of each item of a list. Its call is an arm of `put_answer`.
+// What is asked of each item of a list, with what else its call takes. The call is an arm of `put_answer`.
 pub enum Question {
     Lookup,
     LeastInput,
     Inverse,
-    Gamma,
+    // of N inputs and DEPTH bits
+    Gamma(usize, usize),
     HouseEntry,
     LookupF64,
     LookupF32,
@@ -71,12 +72,10 @@ pub enum Question {
     TagPower(u16),
 }
 
-// A question, how its items are written, `gamma`'s N and DEPTH, and how many items have been answered.
+// A question, how its items are written, and how many items have been answered.
 struct Asked {
     question: Question,
     place: Place,
-    inputs: usize,
-    depth: usize,
     answers: usize,
 }
 
@@ -203,8 +202,6 @@ pub fn ask(
     let asked = Asked {
         question,
         place,
-        inputs: 0,
-        depth: 0,
         answers: 0,
     };
     ask_each(
@@ -226,20 +223,14 @@ fn ask_gamma(
 ) -> State {
     let inputs = read_number(s, io, Place::Any);
     let here = read_number(inputs, io, Place::Any);
-    let asked = Asked {
-        question: Question::Gamma,
-        place: Place::Any,
-        inputs: inputs.got as usize,
-        depth: here.got as usize,
-        answers: 0,
-    };
-    ask_each(
-        asked,
+    ask(
+        Question::Gamma(inputs.got as usize, here.got as usize),
+        Place::Any,
         here,
         io,
         codes,
-        entries(table, here.table),
-        values(floats, here.floats),
+        table,
+        floats,
     )
 }
 
@@ -350,10 +341,10 @@ fn put_answer(
         Question::Lookup => put_looked(s, io, lut_interp_linear16(table, Drive(short(code)))),
         Question::LeastInput => put_sought(s, io, least_input(table, Density(short(code)))),
         Question::Inverse => put_sought(s, io, lut_inverse_interp16(table, Density(short(code)))),
-        Question::Gamma => put_coded(
+        Question::Gamma(inputs, depth) => put_coded(
             s,
             io,
-            lut_interp_linear_gamma_impl(table, asked.inputs, asked.depth, code as usize),
+            lut_interp_linear_gamma_impl(table, inputs, depth, code as usize),
         ),
         Question::HouseEntry => put_looked(s, io, house::entry(code as usize)),
         Question::LookupF64 => put_interpolated(s, io, lut_interp_linear(table, double(code))),
