@@ -1,5 +1,5 @@
 -- What the kit lacks on powers and quotients. Assumes nothing.
-use mathlib.Core.Path.{_≡_, sym, ap, _∙_}
+use mathlib.Core.Path.{_≡_}
 use Prim.Native.Nat.{ℕ, zero, suc, _*_, _/_, _^_, _≤_, _<_}
 use native.Mathlib.Nat.{pow-zero, pow-suc, le-trans, div-mul-le-self, le-div-iff-mul-le}
 use native.Mathlib.Omega.{arith}

@@ -1,7 +1,7 @@
 -- How near the power is to U·(β/U)^(p/N), from step to step, over any U whose square fits 64 bits, any β up to U and
 -- any p. Each step cuts something off, so that A is never above, and what was cut off is held as a factor: of (β + 1)/β
 -- for all the roots together, and of one more part of A for the roots and for each whole step. Assumes nothing.
-use mathlib.Core.Path.{_≡_, refl, sym, ap, _∙_, subst}
+use mathlib.Core.Path.{_≡_, refl, ap, _∙_, subst}
 use mathlib.Core.Bool.{Bool, true, false}
 use Prim.Native.Nat.{ℕ, zero, suc, _+_, _*_, _/_, _%_, _^_, _≤_, _<_}
 use native.Mathlib.Nat.{mul-le-mul, mul-le-mul-left, mul-le-mul-right, le-trans, le-refl, lt-of-le-of-lt, pow-zero, pow-suc, pow-le-pow-left, div-mul-le-self, lt-div-mul-add}

@@ -1,5 +1,5 @@
 -- The power never falls as β rises; it is 0 at 0 and U at U; and with an exponent of 1 it is β. Assumes nothing.
-use mathlib.Core.Path.{_≡_, refl, sym, ap, _∙_}
+use mathlib.Core.Path.{_≡_, refl, ap, _∙_}
 use mathlib.Core.Bool.{Bool, true, false}
 use Prim.Native.Nat.{ℕ, zero, suc, _*_, _/_, _%_, _^_, _≤_, _<_}
 use native.Mathlib.Nat.{mul-le-mul, le-refl, lt-of-le-of-lt, mul-div-cancel, mul-div-cancel-left, one-le-pow, mul-pos, zero-mul, pow-zero, pow-suc}

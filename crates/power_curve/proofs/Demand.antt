@@ -18,8 +18,8 @@ use Rattle.curve.specs.Ramp.{ramp, rampOf}
 use Rattle.curve.specs.Promises.{sittingOn, StartPromise, AcceptPromise}
 use Rattle.curve.proofs.RampLaws.{ramp-rises, ramp-fits}
 use Rattle.power_curve.specs.Curve.{valueAt, entryAt, tableOf, exponentOf}
-use Rattle.power_curve.specs.Promises.{allowedExponent, powerVerdict, PowerPromise, powerTableVerdict, PowerTablePromise}
-use Rattle.power_curve.specs.Demand.{Near, PowerIn, xOf, sampleOf, PowerAt, ValuesObey, TableIn, TablesObey, PowerDemand}
+use Rattle.power_curve.specs.Promises.{allowedExponent, powerVerdict, powerTableVerdict, PowerTablePromise}
+use Rattle.power_curve.specs.Demand.{Near, PowerIn, xOf, sampleOf, ValuesObey, TableIn, TablesObey, PowerDemand}
 use Rattle.power_curve.proofs.Promises.{power-some, power-granted, power-table-some, power-table-granted}
 use Rattle.power_curve.proofs.Tags.{entry-range}
 use Rattle.power_curve.proofs.Values.{value-near, value-le, value-rises, value-first, value-last, value-by-one}

@@ -1,7 +1,7 @@
 -- Worked examples: values on either side of an exponent of 1 and at both ends of its range, a table, and each refusal.
 -- Assumes nothing.
-use mathlib.Core.Path.{_≡_, refl}
-use mathlib.Core.List.{List, [], _∷_}
+use mathlib.Core.Path.{refl}
+use mathlib.Core.List.{[], _∷_}
 use Prim.Native.Nat.{ℕ}
 use Rattle.table.specs.Sizes.{within}
 use Rattle.table.specs.Fill.{tabulated}

@@ -1,6 +1,5 @@
 -- `isqrt` meets its contract. The invariant: the guess is not below the root. At the end its square is not above v.
 -- Assumes nothing.
-use Prim.Native.Nat.{_+_, _*_, _/_}
 use native.Mathlib.Nat.{mul-le-mul}
 use native.Mathlib.Omega.{arith}
 use borrow.Author.Needs.{needs}
