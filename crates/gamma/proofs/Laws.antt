@@ -7,7 +7,8 @@ use lib.Pow.{pow-mono}
 use Rattle.lookup.specs.Lookup.{lower, upper, steps}
 use Rattle.gamma.specs.Gamma.{gammaUnit, gamma}
 use Rattle.lookup.proofs.Steps.{steps-le}
-use Rattle.lookup.proofs.Sum.{Rises, div-mono, lower-le-sum, sum-le-upper, sum-rises}
+use Rattle.table.proofs.Quotient.{div-mono}
+use Rattle.lookup.proofs.Sum.{Rises, lower-le-sum, sum-le-upper, sum-rises}
 
 -- 2^depth, for a depth of 1 to 16
 pub power-low : (depth : ℕ) → 1 ≤ depth → 2 ≤ 2 ^ depth

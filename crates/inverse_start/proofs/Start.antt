@@ -7,7 +7,7 @@ use native.Mathlib.Omega.{arith}
 use borrow.Author.Tests.{lt-ltb, le-ltb}
 use lib.IntN.{ℤ, pos, negsuc, negℤ, _+ℤ_, _-ℤ_}
 use Rattle.table.proofs.Choice.{below?, same?}
-use Rattle.lookup.proofs.Sum.{div-mono}
+use Rattle.table.proofs.Quotient.{div-mono}
 use Rattle.inverse_start.specs.Start.{firstLeft, notBelow0, firstRight}
 
 -- ---- on the left

@@ -14,11 +14,11 @@ use Rattle.table.specs.Sizes.{sized}
 use Rattle.table.specs.Order.{Nondecreasing, SixteenBits, lastEntry}
 use Rattle.table.specs.Answers.{numberOfLooked, valueOfLooked}
 use Rattle.table.proofs.Sizes.{within-low}
-use Rattle.table.proofs.Quotient.{ceil-le-iff}
+use Rattle.table.proofs.Quotient.{ceil-le-iff, div-mono}
 use Rattle.lookup.specs.Demand.{LookupIn, positionOf, sampleOf, LookupObeys, LookupDemand}
 use Rattle.lookup.specs.Lookup.{lower, upper, weighted, steps, lookup16, entriesOf, lookedUp}
 use Rattle.lookup.proofs.Steps.{steps-le, lower-lt}
-use Rattle.lookup.proofs.Sum.{Rises, div-mono, sum-same, sum-on-entry, sum-steps, sum-at-most, sum-at-least, sum-first, sum-last, lower-le-sum, sum-le-upper, sum-rises}
+use Rattle.lookup.proofs.Sum.{Rises, sum-same, sum-on-entry, sum-steps, sum-at-most, sum-at-least, sum-first, sum-last, lower-le-sum, sum-le-upper, sum-rises}
 use Rattle.lookup.proofs.Promises.{lookup-some, lookup-granted}
 
 cap>0 : 0 < 65535

@@ -4,9 +4,9 @@
 use mathlib.Core.Path.{_≡_, _∙_, ap, refl, sym}
 use mathlib.Core.Logic.{⊎-elim}
 use Prim.Native.Nat.{ℕ, _+_, _-_, _*_, _/_, _%_, _≤_, _<_}
-use native.Mathlib.Nat.{le-refl, le-trans, le-of-eq, le-of-lt, mul-zero, zero-mul, zero-add, sub-zero, div-add-mod', div-mul-le-self, mod-lt, eq-zero-or-pos, eq-or-lt-of-le, le-div-iff-mul-le, zero-div, zero-mod, mul-mod-right, mul-div-right, mul-le-mul-right, mul-add-div-right, mul-add-mod-self-right, div-eq-of-lt, mod-eq-of-lt, mod-self, div-self, sub-self, add-zero}
+use native.Mathlib.Nat.{le-refl, le-trans, le-of-eq, le-of-lt, mul-zero, zero-mul, zero-add, sub-zero, div-add-mod', mod-lt, eq-zero-or-pos, eq-or-lt-of-le, zero-div, zero-mod, mul-mod-right, mul-div-right, mul-le-mul-right, mul-add-div-right, mul-add-mod-self-right, div-eq-of-lt, mod-eq-of-lt, mod-self, div-self, sub-self, add-zero}
 use native.Mathlib.Omega.{arith}
-use Rattle.table.proofs.Quotient.{ceil-off, ceil-le, div-le-ceil}
+use Rattle.table.proofs.Quotient.{ceil-off, ceil-le, div-le-ceil, div-mono}
 use Rattle.lookup.specs.Lookup.{lower, rest, upper, weighted, steps}
 use Rattle.lookup.proofs.Weigh.{sum-le, le-sum, sum-mono}
 use Rattle.lookup.proofs.Steps.{steps-le, steps-mono, lower-lt, upper-lt}
@@ -14,10 +14,6 @@ use Rattle.lookup.proofs.Steps.{steps-le, steps-mono, lower-lt, upper-l
 -- n entries of which no later one is below an earlier: of a table's entries, that it is nondecreasing
 abbrev pub Rises : ℕ → (ℕ → ℕ) → Type 0
 Rises n T = (i j : ℕ) → i ≤ j → j < n → T i ≤ T j
-
--- a quotient never falls as what is divided rises
-pub div-mono : {a b cap : ℕ} → 0 < cap → a ≤ b → a / cap ≤ b / cap
-div-mono {a} {b} {cap} pos h = le-div-iff-mul-le pos .1 (le-trans (div-mul-le-self a cap) h)
 
 -- two sources that agree in the bracketing entries give one sum
 pub sum-same : (cap : ℕ) (T U : ℕ → ℕ) (v : ℕ) → T (lower cap v) ≡ U (lower cap v) → T (upper cap v) ≡ U (upper cap v) → weighted cap T v ≡ weighted cap U v

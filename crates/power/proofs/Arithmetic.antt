@@ -1,7 +1,7 @@
--- What the kit lacks on powers and quotients. Assumes nothing.
+-- What the kit lacks on powers. Assumes nothing.
 use mathlib.Core.Path.{_≡_}
-use Prim.Native.Nat.{ℕ, zero, suc, _*_, _/_, _^_, _≤_, _<_}
-use native.Mathlib.Nat.{pow-zero, pow-suc, le-trans, div-mul-le-self, le-div-iff-mul-le}
+use Prim.Native.Nat.{ℕ, zero, suc, _*_, _^_, _<_}
+use native.Mathlib.Nat.{pow-zero, pow-suc}
 use native.Mathlib.Omega.{arith}
 
 pub mul-pow : (a b n : ℕ) → (a * b) ^ n ≡ a ^ n * b ^ n
@@ -11,6 +11,3 @@ mul-pow a b (suc n) = rw (pow-suc (a * b) n, pow-suc a n, pow-suc b n, mul-pow a
 pub zero-pow : (n : ℕ) → 0 < n → 0 ^ n ≡ 0
 zero-pow zero h = absurd (omega arith)
 zero-pow (suc n) h = rw (pow-suc 0 n) (omega arith)
-
-pub div-rises : {a b : ℕ} (u : ℕ) → 0 < u → a ≤ b → a / u ≤ b / u
-div-rises {a} u pos h = le-div-iff-mul-le pos .1 (le-trans (div-mul-le-self a u) h)

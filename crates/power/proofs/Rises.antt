@@ -6,9 +6,10 @@ use native.Mathlib.Nat.{mul-le-mul, le-refl, lt-of-le-of-lt, mul-div-cancel, mul
 use native.Mathlib.Omega.{arith}
 use lib.Dec.{eqb}
 use Rattle.table.specs.Choice.{pick}
+use Rattle.table.proofs.Quotient.{div-mono}
 use Rattle.power.specs.Root.{root}
 use Rattle.power.specs.Power.{factor, wholeSteps, rootSteps, power}
-use Rattle.power.proofs.Arithmetic.{zero-pow, div-rises}
+use Rattle.power.proofs.Arithmetic.{zero-pow}
 use Rattle.power.proofs.Roots.{roots-rise, one-root, square-root, root-le, root-is}
 use Rattle.power.proofs.Steps.{under-le, factor-zero}
 use Rattle.power.proofs.Kept.{Ended}
@@ -17,7 +18,7 @@ module _ (U β γ : ℕ) (some : 0 < U) (b : β ≤ γ) where
   wholes-rise : (r a c : ℕ) → a ≤ c → wholeSteps U β r a ≤ wholeSteps U γ r c
   unfolding wholeSteps
   wholes-rise zero a c h = h
-  wholes-rise (suc r) a c h = wholes-rise r (a * β / U) (c * γ / U) (div-rises U some (mul-le-mul h b))
+  wholes-rise (suc r) a c h = wholes-rise r (a * β / U) (c * γ / U) (div-mono some (mul-le-mul h b))
 
   factor-rises : (r : ℕ) → factor U β r ≤ factor U γ r
   unfolding factor

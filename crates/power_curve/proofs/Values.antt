@@ -5,8 +5,8 @@ use Prim.Native.Nat.{ℕ, _+_, _*_, _/_, _≤_, _<_}
 use native.Mathlib.Nat.{mul-le-mul-right, le-refl, add-le-add, div-mul-le-self, lt-div-mul-add}
 use native.Mathlib.Omega.{arith}
 use lib.Dec.{lit<, lit≤}
+use Rattle.table.proofs.Quotient.{div-mono}
 use Rattle.power.specs.Power.{power}
-use Rattle.power.proofs.Arithmetic.{div-rises}
 use Rattle.power.proofs.Kept.{Powered, power-kept}
 use Rattle.power.proofs.Rises.{power-rises, power-full, power-by-one, power-of-zero}
 use Rattle.power_curve.specs.Curve.{added, valueAt}
@@ -49,7 +49,7 @@ unfolding valueAt
 value-rises p x y l h =
     let xy : x * 65536 ≤ y * 65536 = mul-le-mul-right 65536 l in
     let most : y * 65536 ≤ 4294901760 = mul-le-mul-right 65536 h in
-    div-rises 65536 (lit< tt)
+    div-mono (lit< tt)
     (add-le-add
     (power-rises 4294901760 (x * 65536) (y * 65536) (lit< tt) xy most (lit< tt) p)
     (le-refl (added p)))

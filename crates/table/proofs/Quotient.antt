@@ -1,9 +1,9 @@
--- The quotient rounded up: what it is by what is left over, where it lies, and the one fact that makes it the least number of times that
--- is enough. And a product parted in two. Assumes nothing.
+-- The quotient rounded up: what it is by what is left over, where it lies, and the one fact that makes it the least
+-- number of times that is enough. And a quotient never falls, and a product is parted in two. Assumes nothing.
 use mathlib.Core.Path.{_≡_, _∙_, sym, ap}
 use mathlib.Core.Logic.{⊎-elim, _↔_}
 use Prim.Native.Nat.{ℕ, _+_, _-_, _*_, _/_, _%_, _≤_, _<_}
-use native.Mathlib.Nat.{mul-add, add-sub-of-le, add-mul, mod-lt, mul-comm, div-le-of-le-mul, div-add-mod', eq-zero-or-pos, lt-of-mul-lt-mul-right, le-mul-of-pos-right, mul-le-mul-right}
+use native.Mathlib.Nat.{mul-add, add-sub-of-le, add-mul, mod-lt, mul-comm, div-le-of-le-mul, div-add-mod', eq-zero-or-pos, lt-of-mul-lt-mul-right, le-mul-of-pos-right, mul-le-mul-right, le-trans, div-mul-le-self, le-div-iff-mul-le}
 use native.Mathlib.Omega.{arith}
 use borrow.Author.Tests.{lt-ltb, le-ltb}
 use Rattle.table.specs.Quotient.{divCeil}
@@ -45,6 +45,10 @@ module _ (v cap : ℕ) where
           (λ e. omega (arith, ceil-on e))
           (λ p. ceil-le (lt-of-mul-lt-mul-right cap (omega (arith, div-add-mod' v cap))))
           (eq-zero-or-pos (v % cap))
+
+-- a quotient never falls as what is divided rises
+pub div-mono : {a b cap : ℕ} → 0 < cap → a ≤ b → a / cap ≤ b / cap
+div-mono {a} {b} {cap} pos h = le-div-iff-mul-le pos .1 (le-trans (div-mul-le-self a cap) h)
 
 -- x times cap, parted at k
 pub parted : (x : ℕ) {k cap : ℕ} → k ≤ cap → x * cap ≡ x * k + x * (cap - k)
