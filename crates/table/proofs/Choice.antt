@@ -4,8 +4,9 @@ use mathlib.Core.Logic.{_⊎_, inl, inr}
 use mathlib.Core.Bool.{Bool, true, false, not}
 use Prim.Native.Nat.{ℕ, _≤_, _<_}
 use native.Mathlib.Omega.{arith}
-use borrow.Author.Tests.{not-true, not-false, ltb-true, ltb-false, eqb-true, eqb-false}
-use lib.Dec.{ltb, eqb}
+use native.Mathlib.Nat.{lt-of-not-le, not-le-of-lt}
+use borrow.Author.Tests.{not-true, not-false, ltb-true, ltb-false, leb-true, leb-false, le-leb, lt-leb, eqb-true, eqb-false}
+use lib.Dec.{ltb, leb, eqb}
 use Rattle.table.specs.Choice.{both}
 
 pub never : false ≡ true → ⊥
@@ -40,3 +41,11 @@ below? a b = go (ltb a b) refl
     go : (t : Bool) → ltb a b ≡ t → (a < b) ⊎ (b ≤ a)
     go true e = inl (ltb-true a b e)
     go false e = inr (ltb-false a b e)
+
+-- two tests are one where each tells the other
+pub same-test : (a b c d : ℕ) → (c ≤ d → a ≤ b) → (a ≤ b → c ≤ d) → leb a b ≡ leb c d
+same-test a b c d f g = go (leb c d) refl
+  where
+    go : (t : Bool) → leb c d ≡ t → leb a b ≡ t
+    go true e = le-leb a b (f (leb-true c d e))
+    go false e = lt-leb a b (lt-of-not-le (λ h. not-le-of-lt (leb-false c d e) (g h)))
