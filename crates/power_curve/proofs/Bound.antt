@@ -13,24 +13,20 @@ use Rattle.power_curve.specs.Demand.{Near}
 
 -- The bound in parts is the bound in units: k^N·k^p cancels on both sides.
 module _ (k M N p x c : ℕ) (some : 0 < k) where
-  both-cancel : 0 < k ^ N * k ^ p
-  both-cancel = mul-pos (one-le-pow N k some) (one-le-pow p k some)
+  cancelled : 0 < k ^ N * k ^ p
+  cancelled = mul-pos (one-le-pow N k some) (one-le-pow p k some)
+
+  units : (c * k) ^ N * (M * k) ^ p ≡ c ^ N * M ^ p * (k ^ N * k ^ p)
+  units = rw (mul-pow c k N, mul-pow M k p) (omega arith)
+
+  power-units : (x * k) ^ p * (M * k) ^ N ≡ x ^ p * M ^ N * (k ^ N * k ^ p)
+  power-units = rw (mul-pow x k p, mul-pow M k N) (omega arith)
 
   low-in-units : (c * k) ^ N * (M * k) ^ p ≤ (x * k) ^ p * (M * k) ^ N → c ^ N * M ^ p ≤ x ^ p * M ^ N
-  low-in-units h =
-      let g = rw (mul-pow c k N, mul-pow M k p, mul-pow x k p, mul-pow M k N) at h in
-      le-of-mul-le-mul-right {k = k ^ N * k ^ p} (sorted (c ^ N) (M ^ p) (x ^ p) (M ^ N) (k ^ N) (k ^ p) g) both-cancel
-    where
-      sorted : (a b d e y z : ℕ) → a * y * (b * z) ≤ d * z * (e * y) → a * b * (y * z) ≤ d * e * (y * z)
-      sorted a b d e y z h = omega arith
+  low-in-units h = le-of-mul-le-mul-right (rw (units, power-units) at h) cancelled
 
   high-in-units : (x * k) ^ p * (M * k) ^ N ≤ (c * k) ^ N * (M * k) ^ p → x ^ p * M ^ N ≤ c ^ N * M ^ p
-  high-in-units h =
-      let g = rw (mul-pow c k N, mul-pow M k p, mul-pow x k p, mul-pow M k N) at h in
-      le-of-mul-le-mul-right {k = k ^ N * k ^ p} (sorted (c ^ N) (M ^ p) (x ^ p) (M ^ N) (k ^ N) (k ^ p) g) both-cancel
-    where
-      sorted : (a b d e y z : ℕ) → d * z * (e * y) ≤ a * y * (b * z) → d * e * (y * z) ≤ a * b * (y * z)
-      sorted a b d e y z h = omega arith
+  high-in-units h = le-of-mul-le-mul-right (rw (units, power-units) at h) cancelled
 
 -- A is the power of x·k in parts, h is what is added to it, and n the units that this makes.
 module _ (k M N p x n h A : ℕ) (unit : M + 1 ≡ k) (few : x ≤ M) (pos : 0 < p)
