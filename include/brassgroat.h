@@ -282,7 +282,8 @@ uint32_t bg_house_fill(uint16_t *out, size_t out_len);
  *   has it, in 256ths: 256 is 1, 0x0233 = 563 is nearly 2.2. Entry k answers what 256 * k answers there, refusals too.
  * - The answer n is within one of the curve: with p for the exponent in 65536ths,
  *   (n-1)^65536 * 65535^p <= x^p * 65535^65536 <= (n+1)^65536 * 65535^p, where n-1 is 0 for an n of 0. Several n may
- *   meet this. Which one is answered is fixed all the same: by crates/power_curve/specs/Curve.antt.
+ *   meet this. Which one is answered is fixed all the same: below an exponent of 1 the value is rounded up, from 1 on
+ *   to the nearest (crates/power_curve/specs/Curve.antt).
  * - It is 0 at 0 and 65535 at 65535, and it never falls as x rises. So every table made here is nondecreasing, and
  *   bg_accept grants it.
  * - The exponent 1 (65,536, or a tag's 256) answers x itself, and its table is bg_start's: the straight curve.

@@ -7,7 +7,8 @@ use crate::{Density, Drive, Refusal, raw};
 ///
 /// It is worked out on whole numbers, so that every machine gives the same answer. With p for `exponent`, the answer n
 /// is within one of the curve: (n-1)^65536·65535^p ≤ x^p·65535^65536 ≤ (n+1)^65536·65535^p, where n-1 is 0 for an n of
-/// 0. It is 0 at 0 and 65535 at 65535, and never falls as `x` rises. The exponent 1 answers `x` itself.
+/// 0. Below an exponent of 1 it is rounded up, from 1 on to the nearest. It is 0 at 0 and 65535 at 65535, and never
+/// falls as `x` rises. The exponent 1 answers `x` itself.
 ///
 /// ```
 /// use brassgroat::{Density, Drive, power};

@@ -1,4 +1,4 @@
--- The definition of a power turn by turn, and what each turn is at most, over any U that its square fits in 64 bits.
+-- The definition of a power turn by turn, and what each turn is at most, over any U whose square fits 64 bits.
 -- Assumes nothing.
 use mathlib.Core.Path.{_≡_, refl}
 use mathlib.Core.Bool.{Bool, true, false}

@@ -8,8 +8,8 @@ ghost use Rattle.power.specs.Inside.{NotBelowRoot};
 // What stands for 1 in a power: 65535 units of 65536 parts each.
 const FULL: u64 = 65535 * 65536;
 
-// A guess at the root of v that is not below it, and at most a sixteenth above: Newton's step from the power of two
-// next to the root, whose division is a shift.
+// A guess that is not below the whole root of v, and at most a sixteenth above √v: Newton's step from the power of two
+// next to √v, whose division is a shift.
 fn first_guess(v: u64) -> u64
     ensures { λ r. ⌜ NotBelowRoot v r ⌝ }
 {
@@ -17,8 +17,8 @@ fn first_guess(v: u64) -> u64
     ((1u64 << half) + (v >> half)) / 2
 }
 
-// The whole square root, by Newton's steps: each guess is smaller than the one before it and not below the root. Three
-// steps do, or fewer; seldom it takes a fourth.
+// The whole square root, by Newton's steps: each guess is smaller than the one before it and not below the root. Two or
+// three steps mostly, seldom four; the proof does not count them.
 pub fn isqrt(v: u64) -> u64
     ensures { λ r. ⌜ IsRoot v r ⌝ }
 {

@@ -23,7 +23,7 @@ fn allowed(exponent: u64) -> bool
     within(1, 262144, exponent as usize)
 }
 
-// What is added before the last division, so that it rounds as it should.
+// What is added before the last division: below an exponent of 1 it rounds up, from 1 on to the nearest.
 fn added(exponent: u64) -> u64
     ensures { λ r. ⌜ r ≡ added exponent ⌝ }
 {
