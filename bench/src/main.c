@@ -331,7 +331,20 @@ static bool named(const struct call *call, char **names) {
     return false;
 }
 
+/* A name that no call has would measure nothing and say nothing. */
+static void know(char **names, size_t n) {
+    for (; *names; names++) {
+        char *alone[] = {*names, NULL};
+        bool found = false;
+        for (size_t i = 0; i < COUNT_OF(CALLS); i++)
+            found = found || named(&CALLS[i], alone);
+        if (!found)
+            give_up("no such call", *names, n);
+    }
+}
+
 static void time_all(size_t n, char **names) {
+    know(names, n);
     struct work work = prepared(n, QUESTIONS);
     bake_curve(&work);
     for (size_t i = 0; i < COUNT_OF(CALLS); i++)
@@ -340,6 +353,7 @@ static void time_all(size_t n, char **names) {
 }
 
 static void list(size_t n, char **names) {
+    know(names, n);
     struct work work = prepared(n, COUNTED);
     for (size_t i = 0; i < COUNT_OF(CALLS); i++) {
         const struct call *call = &CALLS[i];
