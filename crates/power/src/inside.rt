@@ -37,7 +37,7 @@ fn root_step(a: u64, base: u64, r: u64) -> u64
     if r % 2 == 1 {
         return isqrt(a * base);
     }
-    // It stays so up to the first digit that is 1. An exponent from a gamma tag ends in eight digits that are 0.
+    // Up to the exponent's first digit that is 1 it stays FULL. An exponent from a gamma tag ends in eight zeros.
     if a == FULL {
         return FULL;
     }

@@ -50,7 +50,7 @@ pub record ValuesObey (p : ℕ) : Type 0 where
   pub never-falls : (v w : PowerIn p) → xOf v ≤ xOf w → sampleOf v ≤ sampleOf w
   pub at-most : (v : PowerIn p) → sampleOf v ≤ 65535
 
--- a table of n entries with the exponent p: an output of that length, and any answer and later table that keep the
+-- a table of n entries with the exponent p, asked for with the output `out`: any answer and later table that keep the
 -- promise
 pub record TableIn (n p : ℕ) (out : List ℕ) : Type 0 where
   pub answer : Done
