@@ -1,7 +1,8 @@
 -- A bound on the power from above with nothing but A in it, where the factor (β + 1)/β that the roots may have cut off
 -- is known to be small beside what is added to A. Assumes nothing.
 use Prim.Native.Nat.{ℕ, _+_, _*_, _^_, _≤_, _<_}
-use native.Mathlib.Nat.{mul-le-mul-left, mul-le-mul-right, le-trans, one-le-pow, pow-le-pow-left, le-of-mul-le-mul-right}
+use native.Mathlib.Nat.{mul-le-mul-left, mul-le-mul-right, le-trans, one-le-pow, pow-le-pow-left}
+use native.Mathlib.Nat.{le-of-mul-le-mul-right}
 use native.Mathlib.Omega.{arith}
 use Rattle.power.proofs.Arithmetic.{mul-pow}
 use Rattle.power.proofs.Kept.{Ended}

@@ -3,7 +3,8 @@
 use mathlib.Core.Path.{_≡_, _∙_, sym, subst}
 use mathlib.Core.Logic.{⊎-elim}
 use Prim.Native.Nat.{ℕ, zero, suc, _+_, _*_, _/_, _%_, _^_, _≤_, _<_}
-use native.Mathlib.Nat.{le-trans, le-of-eq, le-of-lt, lt-of-lt-of-le, le-dest, one-mul, mul-le-mul-right, div-lt-iff-lt-mul, lt-div-mul-add, one-le-pow}
+use native.Mathlib.Nat.{le-trans, le-of-eq, le-of-lt, lt-of-lt-of-le, le-dest, one-mul, mul-le-mul-right}
+use native.Mathlib.Nat.{div-lt-iff-lt-mul, lt-div-mul-add, one-le-pow}
 use native.Mathlib.Numerals.{one-add}
 use native.Mathlib.Omega.{arith}
 use lib.Dec.{lit<}

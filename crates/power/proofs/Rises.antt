@@ -2,7 +2,8 @@
 use mathlib.Core.Path.{_≡_, refl, ap, _∙_}
 use mathlib.Core.Bool.{Bool, true, false}
 use Prim.Native.Nat.{ℕ, zero, suc, _*_, _/_, _%_, _^_, _≤_, _<_}
-use native.Mathlib.Nat.{mul-le-mul, le-refl, lt-of-le-of-lt, mul-div-cancel, mul-div-cancel-left, one-le-pow, mul-pos, zero-mul, pow-zero, pow-suc}
+use native.Mathlib.Nat.{mul-le-mul, le-refl, lt-of-le-of-lt, mul-div-cancel, mul-div-cancel-left, one-le-pow, mul-pos}
+use native.Mathlib.Nat.{zero-mul, pow-zero, pow-suc}
 use native.Mathlib.Omega.{arith}
 use lib.Dec.{eqb}
 use Rattle.table.specs.Choice.{pick}

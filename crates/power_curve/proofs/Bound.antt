@@ -3,7 +3,8 @@
 use mathlib.Core.Path.{_≡_, sym, ap, subst}
 use mathlib.Core.Logic.{⊎-elim}
 use Prim.Native.Nat.{ℕ, zero, suc, _+_, _-_, _*_, _^_, _≤_, _<_}
-use native.Mathlib.Nat.{mul-le-mul, mul-le-mul-left, mul-le-mul-right, le-trans, mul-comm, mul-pos, one-le-pow, pow-le-pow-left, le-of-mul-le-mul-right, zero-mul}
+use native.Mathlib.Nat.{mul-le-mul, mul-le-mul-left, mul-le-mul-right, le-trans, mul-comm, mul-pos, one-le-pow}
+use native.Mathlib.Nat.{pow-le-pow-left, le-of-mul-le-mul-right, zero-mul}
 use native.Mathlib.Omega.{arith}
 use Rattle.table.proofs.Choice.{below?}
 use Rattle.power.proofs.Arithmetic.{mul-pow, zero-pow}

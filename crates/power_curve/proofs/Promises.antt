@@ -14,7 +14,8 @@ use Rattle.table.specs.declared.Drive.{Drive}
 use Rattle.table.specs.declared.Looked.{Looked}
 use Rattle.table.proofs.Answers.{same-looked, lookedBy, looked-number, looked-value, same-done, doneBy, done-number}
 use Rattle.power_curve.specs.Curve.{valueAt, tableOf}
-use Rattle.power_curve.specs.Promises.{allowedExponent, powerVerdict, PowerPromise, powerTableVerdict, PowerTablePromise}
+use Rattle.power_curve.specs.Promises.{allowedExponent, powerVerdict, PowerPromise, powerTableVerdict}
+use Rattle.power_curve.specs.Promises.{PowerTablePromise}
 
 -- One value.
 pub power-some : (x : Drive) (p : ℕ) → PowerPromise x p (lookedBy (powerVerdict p) (valueAt p (x .0)))

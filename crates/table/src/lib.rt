@@ -18,8 +18,8 @@ pub struct Density(pub u16);
 // Why a call is refused: a case for each row of document 01, and for each that a request of document 02 has added, in
 // the order of their numbers.
 pub enum Refusal {
-    // 1: the table's length is 0 or above 65,536; of a start and of a gamma curve, below 2 or above; of some calls, only
-    // above
+    // 1: the table's length is 0 or above 65,536; of a start and of a gamma curve, below 2 or above; of some calls,
+    // only above
     TableLength,
     // 2: the table is not nondecreasing
     NotNondecreasing,
