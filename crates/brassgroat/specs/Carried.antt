@@ -13,7 +13,8 @@ pub record Carried {L R : Type 0} (places : L → R) (promise : L → Type 0) (r
   pub kept : promise answer
   pub same : r ≡ places answer
 
--- The part of a tag crosses as the number of the refusal, how many bytes after the tag's start the library's part lies, and its length.
+-- The part of a tag crosses as the number of the refusal, how many bytes after the tag's start the library's part lies,
+-- and its length.
 pub record PartCarried (tag : RefT (List ℕ)) (r : Part) : Type 0 where
   pub part : RefT (List ℕ)
   pub kept : PartPromise tag part (r .refusal)

@@ -1,6 +1,6 @@
--- What it is for a contract to name one answer. The contract is the export's own, as the checker reads it from the
--- source: `Post` of a function's module `Reads`, over the lifetimes, the parameters, the answer, and the parameters at
--- the exit. Assumes nothing.
+-- When a contract names one answer. The contract is the export's own, as the checker reads it from the source: `Post`
+-- in the function's module `Reads`, which takes the lifetimes, the parameters, the answer, and the parameters at the
+-- exit. Assumes nothing.
 use mathlib.Core.Path.{_≡_}
 use denote.Ref.{RefT, now}
 

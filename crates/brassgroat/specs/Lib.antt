@@ -1,3 +1,3 @@
--- `Carried`: how a promise of the library becomes one of the face. `Contract`: what it is for a contract to name one answer.
+-- `Carried`: how a promise of the library becomes one of the face. `Contract`: when a contract names one answer.
 pub mod Carried
 pub mod Contract

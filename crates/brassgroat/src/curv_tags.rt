@@ -1,4 +1,4 @@
-// The curv tag.
+// Exports on the curv tag.
 use curv::count_entries;
 use curv_part::entry_bytes;
 use curv_reader::read_curv;
@@ -30,7 +30,8 @@ pub extern "C" fn bg_curv_count(tag: &[u8]) -> Count
 
 #[no_mangle]
 pub extern "C" fn bg_curv_read(tag: &[u8], out: &mut [u16]) -> u32
-    ensures { λ r. ⌜ Carried numberOfDone (λ d. ReadPromise (now (tag .entry)) (now (out .entry)) d (now (out .exit))) r ⌝ }
+    ensures { λ r. ⌜ Carried numberOfDone
+        (λ d. ReadPromise (now (tag .entry)) (now (out .entry)) d (now (out .exit))) r ⌝ }
 {
     number_of_done(read_curv(tag, out))
 }
@@ -57,7 +58,8 @@ pub extern "C" fn bg_curv_part(tag: &[u8]) -> Part
 
 #[no_mangle]
 pub extern "C" fn bg_curv_write(table: &[u16], out: &mut [u8]) -> u32
-    ensures { λ r. ⌜ Carried numberOfDone (λ d. WritePromise (now (table .entry)) (now (out .entry)) d (now (out .exit))) r ⌝ }
+    ensures { λ r. ⌜ Carried numberOfDone
+        (λ d. WritePromise (now (table .entry)) (now (out .entry)) d (now (out .exit))) r ⌝ }
 {
     number_of_done(write_curv(table, out))
 }

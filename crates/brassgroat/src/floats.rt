@@ -1,4 +1,4 @@
-// Floats: the float lookups, the passthrough table, and numbers rounded to f32.
+// Exports on floats: the float lookups, the passthrough table, and numbers rounded to f32.
 use interp::lut_interp_linear;
 use interp::lut_interp_linear_float;
 use passthrough::passthrough_table_impl;

@@ -1,4 +1,4 @@
-// The house curve.
+// Exports on the house curve.
 use plain_answers::Sample;
 use plain_answers::inside::as_sample;
 use plain_answers::inside::number_of_done;

@@ -1,4 +1,4 @@
-// From density back to drive.
+// Exports that go from density back to drive.
 use inverse::lut_inverse_interp16;
 use invert::invert_lut;
 use least::least_input;
@@ -24,7 +24,8 @@ pub extern "C" fn bg_least_input(table: &[u16], density: Density) -> Position
 
 #[no_mangle]
 pub extern "C" fn bg_least_input_row(table: &[u16], densities: &[u16], out: &mut [u32]) -> u32
-    ensures { λ r. ⌜ Carried numberOfDone (λ d. LeastRowPromise (now (table .entry)) (now (densities .entry)) (now (out .entry)) d (now (out .exit))) r ⌝ }
+    ensures { λ r. ⌜ Carried numberOfDone (λ d. LeastRowPromise (now (table .entry)) (now (densities .entry))
+        (now (out .entry)) d (now (out .exit))) r ⌝ }
 {
     number_of_done(least_input_row(table, densities, out))
 }
@@ -38,7 +39,8 @@ pub extern "C" fn bg_lut_inverse_interp16(table: &[u16], density: Density) -> Po
 
 #[no_mangle]
 pub extern "C" fn bg_invert_lut(table: &[u16], out: &mut [u16]) -> u32
-    ensures { λ r. ⌜ Carried numberOfDone (λ d. InvertPromise (now (table .entry)) (now (out .entry)) d (now (out .exit))) r ⌝ }
+    ensures { λ r. ⌜ Carried numberOfDone
+        (λ d. InvertPromise (now (table .entry)) (now (out .entry)) d (now (out .exit))) r ⌝ }
 {
     number_of_done(invert_lut(table, out))
 }

@@ -1,5 +1,6 @@
-// The face: the library's calls for C and Rust, one thin export for each, its name `bg_` and the library's own. An answer crosses as a struct of plain
-// places, a refusal's number first; each contract is the library's promise, carried over to those places. include/brassgroat.h says what each call means.
+// The face: one thin export for each of the library's calls, for C and Rust. An export's name is `bg_` and the
+// library's own. An answer crosses as a struct of plain fields, the refusal's number first. Each contract is the
+// library's promise, carried over to those fields. include/brassgroat.h says what each call means.
 pub mod curv_tags;
 pub mod curves;
 pub mod floats;

@@ -1,4 +1,4 @@
-// The work on a curve's table with a log beside it.
+// Exports that work on a curve's table with a log beside it.
 use log::inside::PLACES;
 use logged::log_accept;
 use logged::log_nudge;

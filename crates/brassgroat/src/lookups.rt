@@ -1,4 +1,4 @@
-// Looking up.
+// Exports that look up.
 use gamma::lut_interp_linear_gamma_impl;
 use lookup::lut_interp_linear16;
 use plain_answers::Code;
@@ -29,14 +29,16 @@ pub extern "C" fn bg_lut_interp_linear16_row(
     positions: &[u16],
     out: &mut [u16],
 ) -> u32
-    ensures { λ r. ⌜ Carried numberOfDone (λ d. RowPromise (now (table .entry)) (now (positions .entry)) (now (out .entry)) d (now (out .exit))) r ⌝ }
+    ensures { λ r. ⌜ Carried numberOfDone
+        (λ d. RowPromise (now (table .entry)) (now (positions .entry)) (now (out .entry)) d (now (out .exit))) r ⌝ }
 {
     number_of_done(lut_interp_linear16_row(table, positions, out))
 }
 
 #[no_mangle]
 pub extern "C" fn bg_bake(table: &[u16], out: &mut [u16]) -> u32
-    ensures { λ r. ⌜ Carried numberOfDone (λ d. BakePromise (now (table .entry)) (now (out .entry)) d (now (out .exit))) r ⌝ }
+    ensures { λ r. ⌜ Carried numberOfDone
+        (λ d. BakePromise (now (table .entry)) (now (out .entry)) d (now (out .exit))) r ⌝ }
 {
     number_of_done(bake(table, out))
 }

@@ -1,4 +1,4 @@
-// The para tag.
+// Exports on the para tag.
 use para::Numbers;
 use para::read_para;
 use para_curve::read_parametric_curve;

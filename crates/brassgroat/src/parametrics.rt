@@ -1,4 +1,4 @@
-// Parametric curves.
+// Exports on parametric curves.
 use parametric::ParametricCurve;
 use parametric::compare_parametric;
 use plain_answers::Parametric;

@@ -1,4 +1,4 @@
-// Gamma curves worked out on whole numbers.
+// Exports on gamma curves worked out on whole numbers.
 use plain_answers::Sample;
 use plain_answers::inside::as_sample;
 use plain_answers::inside::number_of_done;

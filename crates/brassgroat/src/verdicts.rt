@@ -1,4 +1,4 @@
-// Verdicts on a curve's shape.
+// Exports of the verdicts on a curve's shape.
 use degeneration::is_curve_degenerated;
 use monotonic::is_curve_monotonic;
 use plain_answers::Degeneration;

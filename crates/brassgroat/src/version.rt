@@ -1,4 +1,4 @@
-// Which version of the face this is.
+// The export that gives the face's version.
 use plain_answers::version;
 ghost use mathlib.Core.Path.{_≡_};
 ghost use Rattle.plain_answers.specs.Answers.{version};

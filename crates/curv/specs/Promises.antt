@@ -12,8 +12,8 @@ use Rattle.curv.specs.declared.Counted.{Counted}
 use Rattle.curv.specs.Answers.{numberOfCounted, valueOfCounted}
 use Rattle.curv.specs.Tag.{signature, countOf, total}
 
--- The tag's own checks, which every call that reads a tag makes: fewer than 12 bytes, 8; a wrong signature, 9; a reserved byte that is not zero, 10;
--- a count above 65,536, 1, whatever the total is; a wrong total, 8.
+-- The tag's own checks, which every call that reads a tag makes: fewer than 12 bytes, 8; a wrong signature, 9; a
+-- reserved byte that is not zero, 10; a count above 65,536, 1, whatever the total is; a wrong total, 8.
 unfoldable pub tagVerdict : List ℕ → Verdict
 tagVerdict b =
     rung (leb 12 (length b)) TagLength

@@ -1,4 +1,5 @@
--- The curv tag of ICC.1, byte by byte: 63 75 72 76, four zero bytes, a 32-bit count n, n 16-bit entries. Assumes nothing.
+-- The curv tag of ICC.1, byte by byte: 63 75 72 76, four zero bytes, a 32-bit count n, n 16-bit entries. Assumes
+-- nothing.
 use Prim.Native.Nat.{ℕ, _+_, _*_}
 use mathlib.Core.Bool.{Bool}
 use mathlib.Core.List.{List}
@@ -10,7 +11,8 @@ use Rattle.icc.specs.Bytes.{be16, be32}
 abbrev pub signature : ℕ
 signature = 0x6375_7276
 
--- What a tag holds: its count, at byte 8; entry i, the two bytes at 12 + 2i; and its entries, as many as the count says.
+-- What a tag holds: its count, at byte 8; entry i, the two bytes at 12 + 2i; and its entries, as many as the count
+-- says.
 abbrev pub countOf : List ℕ → ℕ
 countOf b = be32 b 8
 

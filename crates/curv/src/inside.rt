@@ -1,4 +1,4 @@
-// What reading and writing share: no door of the library.
+// Shared helpers of the curv crates; not public. `tag_length` has a precondition.
 ghost use mathlib.Core.Path.{_≡_};
 ghost use Prim.Native.Nat.{_≤_};
 ghost use Rattle.curv.specs.Tag.{tagLength};

@@ -1,4 +1,4 @@
-// The curv tag of ICC.1: its checks, and how many entries it has.
+// The curv tag of ICC.1 checked, and its entries counted.
 use icc::inside::u32_at;
 use table::Refusal;
 ghost use Rattle.curv.specs.Promises.{CountPromise};

@@ -1,2 +1,2 @@
--- `Promises`: which part of a tag its entries are, and what handing it back promises.
+-- `Promises`: which part of a tag its entries are, and what `entry_bytes` promises of it.
 pub mod Promises

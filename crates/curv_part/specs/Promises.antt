@@ -1,4 +1,5 @@
--- What handing back a tag's entries as its bytes promises: which part they are, where it lies, and the number beside it. Assumes nothing.
+-- What `entry_bytes` promises: which part of the tag it hands back, where it lies, and the number beside it. Assumes
+-- nothing.
 use Prim.Native.Nat.{ℕ, _+_, _*_}
 use mathlib.Core.Path.{_≡_}
 use mathlib.Core.List.{List, []}
@@ -16,8 +17,9 @@ partOf b = take (2 * countOf b) (drop 12 b)
 abbrev pub past : ℕ → ℕ × ℕ → ℕ × ℕ
 past k p = (p .0, k + p .1)
 
--- The bytes of a tag's entries, as that part of the tag: refused as the tag is. The part lies in the tag itself, twelve bytes after its start, and is no copy;
--- refused, it is empty, and lies at the tag's start. The number stands in the place beside it.
+-- The bytes of a tag's entries, as that part of the tag: refused as the tag is. The part lies in the tag itself, twelve
+-- bytes after its start, and is no copy; refused, it is empty, and lies at the tag's start. The number stands in the
+-- place beside it.
 pub record PartPromise (tag part : RefT (List ℕ)) (why′ : ℕ) : Type 0 where
   pub number : why′ ≡ numberIn (tagVerdict (now tag))
   pub bytes : now part ≡ ifGranted (tagVerdict (now tag)) (partOf (now tag)) []

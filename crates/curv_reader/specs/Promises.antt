@@ -1,4 +1,5 @@
--- What a reading promises: when it is refused and by which number, and what the lent buffer holds after it. Assumes nothing.
+-- What a reading promises: when it is refused and by which number, and what the lent buffer holds after it. Assumes
+-- nothing.
 use mathlib.Core.Path.{_≡_}
 use Prim.Native.Nat.{ℕ}
 use mathlib.Core.List.{List}

@@ -1,4 +1,4 @@
-// A table written as the curv tag of ICC.1.
+// A table written as the curv tag of ICC.1, and both round trips. The round trips are proved in proofs/RoundTrip.antt.
 use curv::inside::MOST;
 use curv::inside::SIGNATURE;
 use curv::inside::tag_length;

@@ -1,5 +1,5 @@
--- What each call on a table promises: when it is refused and by which number, and the table after it.
--- Assumes nothing.
+-- What each call on a table promises: when it is refused and by which number, and the table that it leaves. Assumes
+-- nothing.
 use Prim.Native.Nat.{ℕ}
 use mathlib.Core.Path.{_≡_}
 use mathlib.Core.List.{List}
@@ -19,8 +19,8 @@ pub record Sitting : Type 0 where
 abbrev pub sittingOn : List ℕ → Sitting
 sittingOn t = record { table = t }
 
--- Start, of as many entries as the lent table has: refused for fewer than 2 or more than 65,536, 1. Granted, the table is the straight
--- curve; refused, it is as it was.
+-- Start, of as many entries as the lent table has: refused for fewer than 2 or more than 65,536, 1. Granted, the table
+-- is the straight curve; refused, it is as it was.
 abbrev pub startVerdict : Sitting → Verdict
 startVerdict s = rung (spanned (length (s .table))) TableLength granted
 
@@ -28,9 +28,11 @@ pub record StartPromise (s : Sitting) (r : Done) (s′ : Sitting) : Type 0 where
   pub number : numberOfDone r ≡ numberIn (startVerdict s)
   pub table : s′ .table ≡ ifGranted (startVerdict s) (rampOf (length (s .table))) (s .table)
 
--- Accept: refused for the table's length, 1; for a table that is not nondecreasing, 2. The table is as it was either way.
+-- Accept: refused for the table's length, 1; for a table that is not nondecreasing, 2. The table is as it was either
+-- way.
 abbrev pub acceptVerdict : Sitting → Verdict
-acceptVerdict s = rung (sized (length (s .table))) TableLength (rung (nondecreasing (s .table)) NotNondecreasing granted)
+acceptVerdict s =
+    rung (sized (length (s .table))) TableLength (rung (nondecreasing (s .table)) NotNondecreasing granted)
 
 pub record AcceptPromise (s : Sitting) (r : Done) (s′ : Sitting) : Type 0 where
   pub number : numberOfDone r ≡ numberIn (acceptVerdict s)

@@ -1,4 +1,4 @@
-// The straight curve's entry, for the crates above too: no door of the library, since it asks something of its caller.
+// The straight curve's entry. Shared with the crates above; has a precondition, so it is not public.
 ghost use mathlib.Core.Path.{_≡_};
 ghost use mathlib.Core.Bool.{true};
 ghost use Prim.Native.Nat.{_<_};

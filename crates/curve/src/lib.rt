@@ -1,4 +1,4 @@
-// How the work on a curve's table begins: the straight curve to start from, and whether a table may be worked on.
+// How work on a curve begins: `start` makes the straight curve, `accept` tests whether a table may be worked on.
 use table::Done;
 use table::Refusal;
 use table::in_order;
@@ -13,7 +13,8 @@ ghost use Rattle.curve.specs.Promises.{sittingOn, StartPromise, AcceptPr
 
 pub mod inside;
 
-// Whether the table, from wherever it came, may be nudged and read backwards. It is lent to be read, so what it holds after is what it held.
+// Whether the table, from wherever it came, may be nudged and read backwards. It is lent to be read, so what it holds
+// after is what it held.
 pub fn accept(table: &[u16]) -> Done
     ensures { λ r. ⌜ AcceptPromise (sittingOn (now (table .entry))) r (sittingOn (now (table .entry))) ⌝ }
 {

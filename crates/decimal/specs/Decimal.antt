@@ -1,4 +1,5 @@
--- Decimal numbers by their digits, and what a number comes to in its place. Assumes nothing.
+-- Decimal numbers by their digits, and what a number comes to where it stands: itself, one above the largest there, or
+-- wrong. Assumes nothing.
 use Prim.Native.Nat.{ℕ, _+_, _-_, _*_, _≤_, _<_}
 use mathlib.Core.Bool.{Bool, true, false}
 use mathlib.Core.Path.{_≡_}

@@ -1,4 +1,4 @@
-// A decimal number as its digits come in, however many, and whether it suits the place where it stands.
+// A decimal number as its digits come in, however many, and whether it is within its range.
 ghost use mathlib.Core.Bool.{true, false};
 ghost use mathlib.Core.Path.{_≡_};
 ghost use Prim.Native.Nat.{_+_, _≤_};

@@ -1,4 +1,4 @@
--- What this crate's own functions say of a table. Assumes nothing.
+-- A table as this crate's private functions read it. Assumes nothing.
 use Prim.Native.Nat.{ℕ}
 use mathlib.Core.List.{List, reverse}
 use Rattle.degeneration.specs.declared.End.{End}

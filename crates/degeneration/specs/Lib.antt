@@ -1,4 +1,5 @@
--- `Runs`: the run at each end of a table. `Promises`: what the call promises of them. `Inside`: what inner functions say.
+-- `Runs`: the run at each end of a table. `Promises`: what the call promises of them. `Inside`: a table read from an
+-- end.
 pub mod Runs
 pub mod Promises
 pub mod Inside

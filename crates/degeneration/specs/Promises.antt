@@ -10,7 +10,8 @@ use Rattle.table.specs.declared.Refusal.the-variants.{TableLength}
 use Rattle.degeneration.specs.Runs.{degenerated}
 use Rattle.degeneration.specs.declared.Degenerated.{Degenerated}
 
--- Document 01's number for each case, 0 where it is granted, and what stands in the place for yes or no: refused, that is 0 too.
+-- Document 01's number for each case, 0 where it is granted, and what stands in the place for yes or no: refused, that
+-- is 0 too.
 abbrev pub numberOfDegenerated : Degenerated → ℕ
 numberOfDegenerated Degenerated.Yes = 0
 numberOfDegenerated Degenerated.No = 0

@@ -15,6 +15,7 @@ leading t = run (getD t 0 0) t
 abbrev pub trailing : List ℕ → ℕ
 trailing t = leading (reverse t)
 
--- no if n < 2, else yes exactly if the run equal to the first entry or the run equal to the last has at least 20 entries
+-- no if n < 2, else yes exactly if the run equal to the first entry or the run equal to the last has at least 20
+-- entries
 unfoldable pub degenerated : List ℕ → Bool
 degenerated t = pick (ltb (length t) 2) false (pick (leb 20 (leading t)) true (leb 20 (trailing t)))

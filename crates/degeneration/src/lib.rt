@@ -1,4 +1,4 @@
-// Whether a curve stands still over twenty entries or more at an end.
+// The verdict degenerated: a run of 20 or more equal entries at either end of a curve.
 use table::Refusal;
 use table::inside::entry;
 use table::not_above;
@@ -15,7 +15,7 @@ enum End {
     Last,
 }
 
-// Whether the curve stands still at an end.
+// The verdict.
 pub enum Degenerated {
     Yes,
     No,
@@ -49,7 +49,7 @@ fn run(table: &[u16], end: End) -> usize
     i
 }
 
-// Whether the run at either end has at least twenty entries. The Rust's names say percentage; they are counts.
+// Whether the run at either end has at least 20 entries. The Rust's names say percentage; they are counts.
 fn stands_still(table: &[u16]) -> bool
     ensures { λ r. ⌜ r ≡ degenerated (now (table .entry)) ⌝ }
 {
@@ -62,7 +62,7 @@ fn stands_still(table: &[u16]) -> bool
     20 <= run(table, End::Last)
 }
 
-// Whether the curve stands still at an end.
+// Degenerated: the run of equal entries at either end has 20 entries or more.
 pub fn is_curve_degenerated(table: &[u16]) -> Degenerated
     ensures { λ r. ⌜ DegeneratedPromise (now (table .entry)) r ⌝ }
 {

@@ -1,4 +1,5 @@
--- The integer gamma lookup of document 01: the sum of the two weighted entries over cap = N - 1, in units of D. Assumes nothing.
+-- The integer gamma lookup of document 01: the sum of the two weighted entries over cap = N - 1, in units of D. Assumes
+-- nothing.
 use Prim.Native.Nat.{ℕ, _+_, _-_, _*_, _/_, _^_}
 use mathlib.Core.List.{List}
 use lib.ListN.{length}

@@ -1,4 +1,4 @@
--- What the gamma lookup's inner function asks of whoever calls it. Assumes nothing.
+-- The precondition of the gamma lookup's private function. Assumes nothing.
 use Prim.Native.Nat.{ℕ, _≤_, _<_}
 
 -- the gamma lookup's numbers, of a table of n entries, once they are tested

@@ -1,4 +1,4 @@
--- `Gamma`: the definition. `Promises`: what the call promises of it. `Inside`: what the inner function asks.
+-- `Gamma`: the definition. `Promises`: what the call promises of it. `Inside`: the private function's precondition.
 pub mod Gamma
 pub mod Promises
 pub mod Inside

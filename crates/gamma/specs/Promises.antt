@@ -19,7 +19,8 @@ abbrev pub valueOfCoded : Coded → ℕ
 valueOfCoded (Coded.Value c) = c
 valueOfCoded (Coded.Refused why) = 0
 
--- The gamma lookup: refused for the table's length, 1; for N outside 2 to 65,536 or a depth outside 1 to 16, 12; for an input at or above N, 3.
+-- The gamma lookup: refused for the table's length, 1; for N outside 2 to 65,536 or a depth outside 1 to 16, 12; for an
+-- input at or above N, 3.
 abbrev pub gammaVerdict : List ℕ → ℕ → ℕ → ℕ → Verdict
 gammaVerdict t N depth x =
     rung (sized (length t)) TableLength

@@ -1,4 +1,4 @@
-// The integer gamma lookup: the 16-bit lookup's shape with N - 1 for its divisor, and an answer in steps of `depth` bits.
+// The integer gamma lookup: as the 16-bit lookup, but with N - 1 for its divisor and an answer of `depth` bits.
 use lookup::inside::weighted;
 use table::Refusal;
 use table::sized;
@@ -34,7 +34,8 @@ fn gamma_unit(inputs: usize, depth: usize) -> usize
     cap_value * 65535 / max_colors(depth)
 }
 
-// The gamma lookup, once its numbers are tested. The sum and half a unit can together pass the Rust's 32 bits, so they are worked wide.
+// The gamma lookup, once its numbers are tested. The sum and half a unit can together pass the Rust's 32 bits, so they
+// are worked wide.
 fn gamma(table: &[u16], inputs: usize, depth: usize, input: usize) -> u16
     requires { ⌜ GammaFits (length (now table)) inputs depth input ⌝ }
     ensures { λ r. ⌜ r ≡ gammaUp (now (table .entry)) inputs depth input ⌝ }
@@ -44,8 +45,8 @@ fn gamma(table: &[u16], inputs: usize, depth: usize, input: usize) -> u16
     ((value + unit / 2) / unit) as u16
 }
 
-// The Rust's integer gamma lookup with N = inputs, BIT_DEPTH = depth and T = u16. Its answer is a code of about `depth` bits, which can be one
-// more than these hold, and so is no sample.
+// The Rust's integer gamma lookup with N = inputs, BIT_DEPTH = depth and T = u16. Its answer is a code of about `depth`
+// bits, which can be one more than these hold, and so is no sample.
 pub fn lut_interp_linear_gamma_impl(
     table: &[u16],
     inputs: usize,

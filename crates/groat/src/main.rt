@@ -1,5 +1,5 @@
-// The bench program: the whole library at a prompt. It reads standard input to its end, one request a line, and
-// answers each with a line. docs/GROAT.md is its language.
+// The bench program: the whole library, asked one request a line and answering each with a line. It reads standard
+// input to its end. docs/GROAT.md is its language.
 use groat_answers::after_rows;
 use groat_answers::before_rows;
 use groat_curves::PLACES;

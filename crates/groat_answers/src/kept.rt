@@ -1,5 +1,5 @@
-// What the program keeps: a table, a log, a list of floats and the bytes of a tag. Each stands in a buffer of its own,
-// and the state says how many of the buffer's first places it has.
+// What the program keeps: a table, a log, a list of floats and the bytes of a tag. Each stands at the front of a buffer
+// of its own, and the state says how many places of the buffer it takes.
 use groat_lines::State;
 use table::Done;
 

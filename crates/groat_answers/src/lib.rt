@@ -1,5 +1,5 @@
-// What the requests share: how a line meets their rows, what is kept, and, here, how answers are written: `ok`,
-// `refused N`, and lists of numbers, floats and bytes.
+// What the bench program's requests share: finding a line's request, what is kept, and answers as text. Here are the
+// answers: `ok`, `refused N`, and lists of numbers, floats and bytes.
 mod kept;
 mod rows;
 

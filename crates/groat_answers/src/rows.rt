@@ -1,5 +1,5 @@
-// How a line meets the rows of requests, one by one. A row is a text: a request's name, its words, a colon, and what
-// the request does. A name has at most twelve letters, a to z and 0 to 9.
+// How a line finds its request: it is held against the rows of all requests, one by one. A row is a text: a request's
+// name, its words, a colon, and what the request does. A name has at most twelve letters, a to z and 0 to 9.
 use groat_lines::NO_SUCH_REQUEST;
 use groat_lines::State;
 use groat_lines::Streams;

@@ -1,6 +1,6 @@
-// The requests on curves, their logs and floats. Each has a row: the line that `help` shows of it, which begins with
-// its name and its words, and below that what answers it. A new request is a row more and a function of its own; one
-// that asks a list of questions is a row, a case of `Question` and an arm of `put_answer`.
+// The bench program's requests on curves, their logs and floats. Each has a row: the line that `help` shows of it,
+// which begins with its name and its words. What answers it stands below the row. A new request is a row more and a
+// function of its own. One that asks a list of questions is a row, a case of `Question` and an arm of `put_answer`.
 mod floats;
 mod logs;
 mod powers;

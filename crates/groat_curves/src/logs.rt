@@ -1,5 +1,5 @@
-// The requests on the table with the log of its nudges. A refused call leaves its buffers and the count as they were,
-// so the kept ones are lent to it, and the count that it leaves is kept whatever it answers.
+// The requests on the table and the log of its nudges. The kept buffers are lent to each call, and the count that it
+// leaves is kept whatever it answers: a refused call leaves both as they were.
 use groat_answers::at_row;
 use groat_answers::entries;
 use groat_answers::entries_mut;

@@ -1,5 +1,5 @@
-// The requests on gamma curves that are worked out, by an exponent in 65536ths or by the entry of a gamma tag. A
-// refused call leaves its buffer as it was, so the kept table itself is lent to it.
+// The requests on gamma curves that are worked out, by an exponent in 65536ths or by the entry of a gamma tag. The kept
+// table itself is lent to each call: a refused one leaves it as it was.
 use crate::questions::Question;
 use crate::questions::ask;
 use groat_answers::at_row;

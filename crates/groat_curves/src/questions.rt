@@ -1,4 +1,4 @@
-// Requests that ask of the table, and `ask`, by which any list of questions is answered: each is handed to the
+// The requests that ask about the table, and `ask`, which answers any list of questions: each question goes to the
 // library's call, and the answers are written as the questions come in.
 use crate::tables::hold;
 use gamma::Coded;

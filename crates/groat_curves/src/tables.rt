@@ -1,5 +1,5 @@
-// The requests that make, change and judge the table. A refused call leaves its buffer as it was, so the kept table
-// itself is lent to it.
+// The requests that make, change and judge the table. The kept table itself is lent to each call: a refused one leaves
+// it as it was.
 use degeneration::Degenerated;
 use groat_answers::at_row;
 use groat_answers::entries;

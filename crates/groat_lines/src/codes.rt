@@ -1,5 +1,5 @@
-// What a code stands for. Every number of a line is read as a code of 64 bits, in which the codes of one place count
-// up from 0.
+// What a code stands for. Every number of a line is read as a code of 64 bits. The codes of one kind of number count up
+// from 0.
 use patterns::double_of;
 use patterns::float_of;
 

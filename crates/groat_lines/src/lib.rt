@@ -1,6 +1,6 @@
-// Request lines as they come in, and answers as they go out: bytes, words, numbers and lists. Nothing is held as text
-// but a path, so a line may be as long as it likes. Each reading leaves the input at the byte after what it read, and
-// says in the state what is wrong.
+// The bench program's input and output: request lines read as words, numbers and lists, and answers written as bytes.
+// Nothing is held as text but a path, so a line may be as long as it likes. Each reading leaves the input at the byte
+// after what it read, and says in the state what is wrong.
 mod bytes;
 mod codes;
 mod lists;

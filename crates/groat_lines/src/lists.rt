@@ -1,4 +1,4 @@
-// Lists: `V`, `V*K` and `A:B`, or a log's records, parted by commas, or `-` for none.
+// Lists: `V`, `V*K` and `A:B`, or a log's records, separated by commas; or `-` for none.
 use crate::numbers::COLON;
 use crate::numbers::MINUS;
 use crate::numbers::Place;

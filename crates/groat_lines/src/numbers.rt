@@ -1,4 +1,4 @@
-// Numbers: decimal ones of each place, records of three, and the bit patterns of floats.
+// Numbers: decimal ones of each kind, records of three, and the bit patterns of floats.
 use crate::problems::BAD_NUMBER;
 use crate::problems::wrong;
 use crate::streams::State;

@@ -1,5 +1,5 @@
 // What can be wrong with a request line, by number, and the texts that say so. The first thing that is wrong stands
-// until the line's end, where its text is the answer; whoever reads on after it reads nothing that counts.
+// until the line's end, where its text is the answer. What is read after it does not count.
 use crate::streams::State;
 use crate::streams::Streams;
 use crate::streams::put;

@@ -1,4 +1,4 @@
-// Words and the ends of them, the end of a line, names and paths.
+// Words and where they end, the end of a line, names and paths.
 use crate::problems::TOO_FEW_WORDS;
 use crate::problems::TOO_MANY_WORDS;
 use crate::problems::wrong;

@@ -1,5 +1,6 @@
-// The tag from a file and to one. A file is written beside its place and renamed, so that no half file is left. A path
-// of 4,096 bytes may go on past its buffer: no file is begun under it here, and the kit's `open_read` opens none.
+// The tag read from a file and written to one. A file is written beside its place and renamed, so that no half file is
+// left. A path of 4,096 bytes may be the beginning of a longer one, cut off by its buffer: no file is begun under it
+// here, and the kit's `open_read` opens none.
 use crate::tags::hold;
 use groat_answers::bytes;
 use groat_answers::bytes_mut;

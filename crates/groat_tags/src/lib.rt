@@ -1,4 +1,4 @@
-// The requests on tags, files and pictures, each with its row as in groat_curves.
+// The bench program's requests on tags, files and pictures, each with its row as in groat_curves.
 mod files;
 mod pictures;
 mod tags;

@@ -1,5 +1,5 @@
-// The requests on the tag. A refused call leaves its buffer as it was, so the kept table and the kept tag are lent to
-// it.
+// The requests on the tag. The kept table and the kept tag are lent to each call: a refused one leaves them as they
+// were.
 use crate::files::load;
 use crate::files::save;
 use curv::Counted;

@@ -1,5 +1,5 @@
--- What each call of this crate promises: when it is refused and by which number, its value, and what the lent buffer holds after it.
--- Assumes nothing.
+-- What each call of this crate promises: when it is refused and by which number, its value, and what the lent buffer
+-- holds after it. Assumes nothing.
 use Prim.Native.Nat.{ℕ}
 use mathlib.Core.Path.{_≡_}
 use mathlib.Core.List.{List}

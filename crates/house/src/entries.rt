@@ -1028,7 +1028,8 @@ const HOUSE: [u16; 1024] = [
     65535,
 ];
 
-// A constant array is built anew wherever it is named, so it is named here alone: its rule is tested once, and no loop builds it.
+// A constant array is built anew wherever it is named, so it is named here alone: its rule is tested once, and no loop
+// builds it.
 pub fn curve() -> [u16; 1024]
     ensures { λ r. ⌜ IsHouse r ⌝ }
 {

@@ -1,4 +1,4 @@
-// The house curve: a fixed table of 1,024 numbers, gamma 2.5. One entry of it, or all.
+// The house curve: a fixed table of 1,024 numbers, gamma 2.5. A call gives one entry of it, another all.
 use entries::curve;
 use table::Density;
 use table::Done;

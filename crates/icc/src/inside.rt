@@ -1,4 +1,4 @@
-// Bytes of a tag read and written, for callers that have tested the tag's length: no door of the library.
+// Bytes of a tag read and written. Shared helpers with preconditions on the tag's length; not public.
 ghost use mathlib.Core.Path.{_≡_};
 ghost use Prim.Native.Nat.{_+_, _≤_};
 ghost use lib.ListN.{length};

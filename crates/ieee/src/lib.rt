@@ -1,1 +1,2 @@
-// Laws on the kit's account of IEEE 754 (lib.Ieee) that the kit lacks. There is no code: the words stand in specs/, the laws in proofs/.
+// Laws on IEEE 754 that the kit's account of it (lib.Ieee) lacks. There is no code: the definitions are in specs/, the
+// laws in proofs/.

@@ -23,8 +23,8 @@ abbrev pub valueOfInterpolated : Interpolated → Float
 valueOfInterpolated (Interpolated.Value y) = y
 valueOfInterpolated (Interpolated.Refused why) = nought
 
--- For finite entries the last one comes out exactly at x = 1, above it and at a NaN, and the first at x = 0 and below, as numbers: `eq` takes a zero for
--- the other zero.
+-- For finite entries the last one comes out exactly at x = 1, above it and at a NaN, and the first at x = 0 and below,
+-- as numbers: `eq` takes a zero for the other zero.
 pub record EndsExact (t : List Float) (x y : Float) : Type 0 where
   pub last : lt x one ≡ false → T (finite (getD t (length t - 1) nan)) → T (eq y (getD t (length t - 1) nan))
   pub first : le x nought ≡ true → T (finite (getD t 0 nan)) → T (eq y (getD t 0 nan))
@@ -38,7 +38,8 @@ pub record FloatPromise (t : List Float) (x : Float) (r : Interpolated) : Type 0
   pub value : valueOfInterpolated r ≡ ifGranted (floatVerdict t) (floatLookedUp t x) nought
   pub ends : floatVerdict t ≡ granted → EndsExact t x (valueOfInterpolated r)
 
--- `lut_interp_linear`: refused for a table of more than 65,536 entries, 1; for an input that is NaN, below 0 or above 1, 13.
+-- `lut_interp_linear`: refused for a table of more than 65,536 entries, 1; for an input that is NaN, below 0 or above
+-- 1, 13.
 abbrev pub linearVerdict : List ℕ → Float → Verdict
 linearVerdict t x =
     rung (notAbove (length t)) TableLength

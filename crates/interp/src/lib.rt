@@ -1,4 +1,4 @@
-// The lookups whose positions are floats.
+// The float lookups: a table looked up at a float from 0 to 1.
 use rounding::inside::ceil_f32;
 use rounding::inside::ceil_f64;
 use rounding::inside::floor_f32;

@@ -1,5 +1,6 @@
--- The ported inverse of document 01, `lut_inverse_interp16`, in its letters: a table of n entries, a value v. Its search, and the steps before and after it
--- put together. Assumes nothing.
+-- The Rust's inverse, `lut_inverse_interp16` of document 01, in the document's letters: a table of n entries, a value
+-- v. Here are its search, and the whole: the steps before the search, the search, and the steps after it. Assumes
+-- nothing.
 use Prim.Native.Nat.{ℕ, zero, suc, _+_, _-_, _/_}
 use mathlib.Core.List.{List}
 use lib.Dec.{leb, ltb, eqb}
@@ -10,9 +11,9 @@ use Rattle.inverse_tail.specs.Tail.{tail}
 use Rattle.inverse.specs.declared.inside.Found.{Found}
 use Rattle.inverse.specs.declared.inside.Found.the-variants.{Hit, Missed}
 
--- While r > l: x = floor((l+r)/2), look up x-1; the first exact hit leaves the search, with its x-1; above the value r = x-1, below l = x+1. With no hit
--- the search ends with the x that it probed last. The last candidate, r = l, is not probed. `fuel` bounds the number of probes, and r - l is always
--- enough (the law `fuel-enough`).
+-- While r > l: x = floor((l+r)/2), look up x-1. The first exact hit leaves the search, with its x-1; above the value,
+-- r = x-1; below it, l = x+1. With no hit the search ends with the x that it probed last. The last candidate, r = l, is
+-- not probed. `fuel` bounds the number of probes, and r - l is always enough (the law `fuel-enough`).
 unfoldable pub search : ℕ → List ℕ → ℕ → ℕ → ℕ → ℕ → Found
 search zero t v l r last = Missed last
 search (suc fuel) t v l r last =

@@ -1,4 +1,4 @@
--- `Inverse`: the search, and the whole. `Promises`: what the call promises of it. `Inside`: what inner functions ask.
+-- `Inverse`: the search, and the whole. `Promises`: what the call promises of it. `Inside`: preconditions.
 pub mod Inverse
 pub mod Promises
 pub mod Inside

@@ -1,5 +1,5 @@
-// The inverse's search, and its steps put together in the Rust's order. No door of the library, since `inverse` asks
-// that the table's length be tested and its ends counted.
+// The inverse's search, and all its steps in the Rust's order. Not public: `inverse` has preconditions, that the
+// table's length is tested and that `ends` are the table's.
 use inverse_start::inside::first_left;
 use inverse_start::inside::first_right;
 use inverse_start::inside::leading_zeros;
@@ -36,7 +36,8 @@ enum Found {
     Missed(u16),
 }
 
-// The bisection, left by `break` at the first exact hit, the form that document 01 names. The last candidate, r = l, is not probed: the answers would leave the Rust's.
+// The bisection, left by `break` at the first exact hit, the form that document 01 names. The last candidate, r = l, is
+// not probed: the answers would leave the Rust's.
 fn search(table: &[u16], v: u16, left: usize, right: usize) -> Found
     requires { ⌜ sized (length (now table)) ≡ true ⌝ }
     requires { ⌜ Ready (now table) v left right ⌝ }

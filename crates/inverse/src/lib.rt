@@ -1,4 +1,5 @@
-// The ported inverse: the position for a value, as moxcms works it out. It is not the least position; that is `least`.
+// The Rust's inverse, whole: a position for a value, as moxcms works it out. It is not the least position; that is
+// `least`.
 use table::Density;
 use table::Drive;
 use table::Refusal;

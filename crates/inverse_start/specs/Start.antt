@@ -1,4 +1,5 @@
--- What document 01's inverse, `lut_inverse_interp16`, does before its search, step by step, in its letters: a table of n entries, a value v. Assumes nothing.
+-- The steps of document 01's inverse, `lut_inverse_interp16`, before its search, in the document's letters: a table of
+-- n entries, a value v. Assumes nothing.
 use Prim.Native.Nat.{ℕ, _-_, _*_, _/_}
 use mathlib.Core.Bool.{Bool, true}
 use mathlib.Core.List.{List, reverse}
@@ -30,8 +31,8 @@ abbrev pub notBelow0 : ℤ → ℕ
 notBelow0 (pos k) = k
 notBelow0 (negsuc k) = 0
 
--- start r = 65536; if w > 1: r = (n-1-w)·65535/(n-1) cut toward zero, plus 1. Where every entry is 65535 that can lie below 0: it is then not above l,
--- and neither is 0
+-- start r = 65536; if w > 1: r = (n-1-w)·65535/(n-1) cut toward zero, plus 1. Where every entry is 65535 that can lie
+-- below 0: it is then not above l, and neither is 0
 unfoldable pub firstRight : ℕ → ℕ → ℕ
 firstRight n w =
     pick (ltb 1 w) (notBelow0 (quotZ ((pos n -ℤ pos 1 -ℤ pos w) *ℤ pos 65535) (pos n -ℤ pos 1) +ℤ pos 1)) 65536

@@ -1,4 +1,5 @@
-// The steps before the search, in the Rust's order. No doors of the library: `first_left` and `first_right` ask that a table's length be tested.
+// The steps before the search, in the Rust's order. Not public: `first_left` and `first_right` have preconditions on
+// the table's length.
 ghost use mathlib.Core.Path.{_≡_};
 ghost use Prim.Native.Nat.{_≤_};
 ghost use Rattle.inverse_start.specs.Start.{leadingZeros, trailingTops, zeroAtOnce, firstLeft, firstRight};
@@ -58,7 +59,8 @@ pub fn first_left(n: usize, z: usize) -> usize
     1
 }
 
-// Where the search begins on the right. Of nothing but 65535s the Rust's r lies at 0 or below; 0 serves as well, since no l is below it.
+// Where the search begins on the right. Of nothing but 65535s the Rust's r lies at 0 or below; 0 serves as well, since
+// no l is below it.
 pub fn first_right(n: usize, w: usize) -> usize
     requires { ⌜ (w ≤ n) × (n ≤ 65536) ⌝ }
     ensures { λ r. ⌜ r ≡ firstRight n w ⌝ }

@@ -1,4 +1,4 @@
--- What the inner functions of this crate ask of whoever calls them. Assumes nothing.
+-- The preconditions of this crate's inner functions. Assumes nothing.
 use Prim.Native.Nat.{ℕ, _≤_, _<_}
 
 -- two cells of a table of n entries

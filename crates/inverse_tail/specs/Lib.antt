@@ -1,3 +1,3 @@
--- `Tail`: the f64 steps. `Inside`: what inner functions ask.
+-- `Tail`: the f64 steps. `Inside`: preconditions.
 pub mod Tail
 pub mod Inside

@@ -1,5 +1,6 @@
--- The f64 steps of document 01's inverse, for a search that met no hit: x is the one that it probed last, v the value, n the table's length. Each
--- operation is IEEE 754's on binary64, rounded to nearest, ties to even. Assumes nothing.
+-- The f64 steps of document 01's inverse after a search without a hit: x is the candidate that was probed last, v the
+-- value, n the table's length. Each operation is IEEE 754's on binary64, rounded to nearest, ties to even. Assumes
+-- nothing.
 use Prim.Native.Nat.{ℕ, _-_}
 use mathlib.Core.Bool.{false}
 use mathlib.Core.List.{List}
@@ -23,7 +24,8 @@ cellOf n x = mul binary64 (float (n - 1)) (div binary64 (float (x - 1)) (float 6
 unfoldable pub nodeOf : ℕ → ℕ → Float
 nodeOf n c = div binary64 (mul binary64 (float 65535) (float c)) (float (n - 1))
 
--- f below 0 answers 0, f at or above 65535 answers 65535, otherwise floor(f + 0.5). A NaN would answer 0, as the Rust's cast of it does
+-- f below 0 answers 0, f at or above 65535 answers 65535, otherwise floor(f + 0.5). A NaN would answer 0, as the Rust's
+-- cast of it does
 unfoldable pub rounded : Float → ℕ
 rounded f = pick (lt f nought) 0 (pick (le (float 65535) f) 65535 (floor (add binary64 f half)))
 

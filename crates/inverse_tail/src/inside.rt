@@ -1,4 +1,4 @@
-// The f64 steps, for callers that have tested the table's length: no door of the library.
+// The f64 steps. Not public: they have preconditions, that the table's length is tested and that x is not 0.
 use rounding::abs_f64;
 use rounding::inside::ceil_f64;
 use rounding::inside::floor_f64;
@@ -10,7 +10,8 @@ ghost use Rattle.table.specs.Sizes.{sized};
 ghost use Rattle.inverse_tail.specs.Tail.{rounded, between, tail};
 ghost use Rattle.inverse_tail.specs.Inside.{CellsFit};
 
-// The position that the f64 steps come to, as 16 bits. The tests stand so that a NaN would answer 0, as the Rust's cast has it, with no test of its own.
+// The position that the f64 steps come to, as 16 bits. The tests stand so that a NaN would answer 0, as the Rust's cast
+// has it, with no test of its own.
 fn rounded(f: f64) -> u16
     ensures { λ r. ⌜ r ≡ rounded f ⌝ }
 {
@@ -23,8 +24,8 @@ fn rounded(f: f64) -> u16
     0
 }
 
-// The position on the line through two entries where it reaches the value, or x where they are one or the line is nearly flat. `mlaf` is a product and a sum
-// here, each rounded.
+// The position on the line through two entries where it reaches the value, or x where they are one or the line is
+// nearly flat. `mlaf` is a product and a sum here, each rounded.
 fn between(table: &[u16], x: u16, v: u16, cell0: usize, cell1: usize) -> u16
     requires { ⌜ CellsFit (length (now table)) cell0 cell1 ⌝ }
     ensures { λ r. ⌜ r ≡ between (now (table .entry)) x v cell0 cell1 ⌝ }

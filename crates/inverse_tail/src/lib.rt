@@ -1,2 +1,2 @@
-// What the ported inverse does after a search that met no hit: f64 steps to the position where a line reaches the value.
+// The Rust's inverse after a search without a hit: f64 steps to the position where a line reaches the value.
 pub mod inside;

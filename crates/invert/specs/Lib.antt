@@ -1,3 +1,3 @@
--- `Invert`: what a whole table inverted is. `Promises`: what the call promises of it.
+-- `Invert`: the definition of a whole table inverted. `Promises`: what the call promises of it.
 pub mod Invert
 pub mod Promises

@@ -1,4 +1,5 @@
--- What a table inverted promises: when it is refused and by which number, and what the lent buffer holds after it. Assumes nothing.
+-- What `invert_lut` promises: when it is refused and by which number, and what the lent buffer holds after it. Assumes
+-- nothing.
 use Prim.Native.Nat.{ℕ}
 use mathlib.Core.Path.{_≡_}
 use mathlib.Core.List.{List}

@@ -1,4 +1,4 @@
-// A whole table inverted by the ported inverse.
+// A whole table inverted by the Rust's inverse.
 use inverse::inside::ends_of;
 use inverse::inside::inverse;
 use rounding::inside::floor_f64;
@@ -29,7 +29,8 @@ fn fill_inverted(table: &[u16], out: &mut [u16])
     }
 }
 
-// Fills `out` with the table inverted: the positions for values spread evenly from 0 to 65535, as many as `out` has entries.
+// Fills `out` with the table inverted: the positions for values spread evenly from 0 to 65535, as many as `out` has
+// entries.
 pub fn invert_lut(table: &[u16], out: &mut [u16]) -> Done
     ensures { λ r. ⌜ InvertPromise (now (table .entry)) (now (out .entry)) r (now (out .exit)) ⌝ }
 {

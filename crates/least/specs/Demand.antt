@@ -1,5 +1,6 @@
--- Demand 3, whole: the table throughout a sitting, and on every nondecreasing table of 1 to 65,536 entries the lookup and the least input.
--- Each part speaks of any answers that keep the promises, so that whatever keeps them obeys. Assumes nothing.
+-- Demand 3, whole: what holds of the table throughout a sitting, and of the lookup and the least input on every
+-- nondecreasing table of 1 to 65,536 entries. Each part is stated of any answers that keep the promises, so it holds of
+-- any code that keeps them. Assumes nothing.
 use Prim.Native.Nat.{ℕ, _≤_, _<_}
 use mathlib.Core.Path.{_≡_}
 use mathlib.Core.Logic.{_↔_}

@@ -1,4 +1,4 @@
--- What the inner functions of this crate and of `least_row` ask of whoever calls them. Assumes nothing.
+-- The preconditions of the inner functions of this crate and of `least_row`. Assumes nothing.
 use Prim.Native.Nat.{ℕ, _+_, _≤_, _<_}
 use mathlib.Core.Path.{_≡_}
 use mathlib.Core.List.{List}

@@ -1,4 +1,5 @@
--- The least input of a value, over any lookup f from the positions 0 to 65535 to values, so that two curves in a row have one too. Assumes nothing.
+-- The least input of a value, for any lookup f from the positions 0 to 65535 to values. Two curves one after the other
+-- are such a lookup too. Assumes nothing.
 use Prim.Native.Nat.{ℕ, zero, suc, _≤_}
 use mathlib.Core.Bool.{Bool}
 use lib.Dec.{leb}

@@ -1,4 +1,5 @@
--- `Least`: the definition. `Promises`: what the call promises of it. `Demand`: demand 3, whole. `Inside`: what inner functions ask.
+-- `Least`: the definition. `Promises`: what the call promises of it. `Demand`: demand 3, whole. `Inside`:
+-- preconditions.
 pub mod Least
 pub mod Promises
 pub mod Inside

@@ -14,8 +14,8 @@ use Rattle.table.specs.declared.Refusal.the-variants.{TableLength, NotNondecrea
 use Rattle.lookup.specs.Lookup.{lookedUp}
 use Rattle.least.specs.Least.{leastOf}
 
--- The least input of v: refused for the table's length, 1; for a table that is not nondecreasing, 2; for a v above the last entry, 5.
--- It is the smallest position whose lookup is at least v.
+-- The least input of v: refused for the table's length, 1; for a table that is not nondecreasing, 2; for a v above the
+-- last entry, 5. It is the smallest position whose lookup is at least v.
 abbrev pub leastVerdict : List ℕ → ℕ → Verdict
 leastVerdict t v =
     rung (sized (length t)) TableLength

@@ -1,4 +1,4 @@
-// The search for a least input in a table that has passed its tests: no door of the library, since each asks something of its caller.
+// The search for a least input. Shared helpers with preconditions: the table has passed its tests. Not public.
 use table::inside::div_ceil;
 use table::inside::entry;
 use table::inside::wide;
@@ -9,7 +9,8 @@ ghost use Rattle.least.specs.Inside.{Searchable, FirstReaching, Cell};
 ghost use Rattle.least.specs.Least.{leastOf};
 ghost use Rattle.table.specs.Order.{lastEntry};
 
-// The index of the first entry that is not below v, in a table whose last is not. The entries are halved until one is left.
+// The index of the first entry that is not below v, in a table whose last is not. The entries are halved until one is
+// left.
 fn first_reaching(table: &[u16], top: usize, v: u16) -> usize
     requires { ⌜ Searchable (now table) top ⌝ }
     requires { ⌜ v ≤ lastEntry (now table) ⌝ }
@@ -28,8 +29,8 @@ fn first_reaching(table: &[u16], top: usize, v: u16) -> usize
     low
 }
 
-// The least input of v, where entry c is below v and the next is not: how many of the 65535 steps from the one to the other it takes,
-// and how many positions make that many steps.
+// The least input of v, where entry c is below v and the next is not: how many of the 65535 steps from the one to the
+// other it takes, and how many positions make that many steps.
 fn in_cell(table: &[u16], top: usize, v: u16, c: usize) -> usize
     requires { ⌜ Cell (now table) top v c ⌝ }
     ensures { λ r. ⌜ (r ≡ leastOf (lookedUp (now (table .entry))) v) × (r ≤ 65535) ⌝ }

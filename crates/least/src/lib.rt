@@ -1,4 +1,5 @@
-// The least-input inverse: the smallest position whose lookup is at least a value.
+// The least-input inverse, the smallest drive whose density is at least a value; and demand 3, whole
+// (specs/Demand.antt).
 use table::Density;
 use table::Drive;
 use table::Refusal;

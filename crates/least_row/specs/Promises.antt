@@ -1,4 +1,5 @@
--- What the call of this crate promises: when it is refused and by which number, and what the lent buffer holds after it. Assumes nothing.
+-- What the call of this crate promises: when it is refused and by which number, and what the lent buffer holds after
+-- it. Assumes nothing.
 use Prim.Native.Nat.{ℕ}
 use mathlib.Core.Path.{_≡_}
 use mathlib.Core.List.{List}
@@ -25,8 +26,8 @@ leastRowAt t values i = rowPosition t (getD values i 0)
 abbrev pub leastRowOf : List ℕ → List ℕ → List ℕ
 leastRowOf t values = tabulated (leastRowAt t values) (length values)
 
--- The least inputs of a row of values: refused for the table's length, 1; for an output that is not exactly as long as the values, 6;
--- for a table that is not nondecreasing, 2.
+-- The least inputs of a row of values: refused for the table's length, 1; for an output that is not exactly as long as
+-- the values, 6; for a table that is not nondecreasing, 2.
 abbrev pub leastRowVerdict : List ℕ → List ℕ → List ℕ → Verdict
 leastRowVerdict t values out =
     rung (sized (length t)) TableLength

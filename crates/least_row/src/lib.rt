@@ -35,9 +35,11 @@ fn fill_least_row(table: &[u16], values: &[u16], out: &mut [u32])
     }
 }
 
-// The least inputs of a row of values, the table tested once. A value above the last entry, which a single call refuses, has 65,536 in its place.
+// The least inputs of a row of values, the table tested once. A value above the last entry, which a single call
+// refuses, has 65,536 in its place.
 pub fn least_input_row(table: &[u16], values: &[u16], out: &mut [u32]) -> Done
-    ensures { λ r. ⌜ LeastRowPromise (now (table .entry)) (now (values .entry)) (now (out .entry)) r (now (out .exit)) ⌝ }
+    ensures { λ r. ⌜ LeastRowPromise (now (table .entry)) (now (values .entry)) (now (out .entry))
+        r (now (out .exit)) ⌝ }
 {
     if !sized(table.len()) {
         return Done::Refused(Refusal::TableLength);

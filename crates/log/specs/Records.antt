@@ -1,4 +1,4 @@
--- A log keeps each granted nudge as one number of 64 bits. What such a number says, and what a list of them does to a
+-- A log keeps each granted nudge as one number of 64 bits: what such a number says, and what a list of them does to a
 -- table. Assumes nothing.
 use Prim.Native.Nat.{ℕ, _+_, _*_, _/_, _%_}
 use mathlib.Core.Bool.{Bool}

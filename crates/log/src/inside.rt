@@ -1,4 +1,4 @@
-// What the calls over a log are made of. For the crates above: no door of the library.
+// What the calls over a log are made of. Shared helpers, not public; `word` has a precondition.
 use table::inside::entry;
 use table::inside::suits;
 use table::inside::wide;

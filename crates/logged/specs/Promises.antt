@@ -1,5 +1,5 @@
 -- What each call over a table and its log promises: when it is refused and by which number, and what it leaves of all
--- three, the table, the log's words and the count. Assumes nothing.
+-- three: the table, the log's words and the count. Assumes nothing.
 use Prim.Native.Nat.{ℕ, _+_, _-_}
 use mathlib.Core.Path.{_≡_}
 use mathlib.Core.Bool.{Bool, true}
@@ -12,7 +12,8 @@ use Rattle.table.specs.Refusals.{Verdict, granted, rung, numberIn, ifGranted}
 use Rattle.table.specs.Answers.{numberOfDone}
 use Rattle.table.specs.declared.Density.{Density}
 use Rattle.table.specs.declared.Done.{Done}
-use Rattle.table.specs.declared.Refusal.the-variants.{TableLength, NotNondecreasing, IndexBeyond, OutsideNeighbours, LogFull, NothingToTakeBack, BadLog}
+use Rattle.table.specs.declared.Refusal.the-variants.{TableLength, NotNondecreasing, IndexBeyond, OutsideNeighbours}
+use Rattle.table.specs.declared.Refusal.the-variants.{LogFull, NothingToTakeBack, BadLog}
 use Rattle.curve.specs.Ramp.{rampOf}
 use Rattle.log.specs.Records.{places, word, takenBack, goesWith}
 use Rattle.logged.specs.State.{Logged, loggedOn, lastStanding}

@@ -1,5 +1,5 @@
 -- A sitting with a log, call by call, and what is demanded of it: document 02's rule, and demand 3 with take-backs.
--- Only the promises are cited, so that whatever keeps them obeys. Assumes nothing.
+-- Only the promises are cited, so this holds of any code that keeps them. Assumes nothing.
 use Prim.Native.Nat.{ℕ, _-_, _≤_, _<_}
 use mathlib.Core.Path.{_≡_}
 use mathlib.Core.Logic.{_↔_}

@@ -1,5 +1,6 @@
-// The work on a curve's table with a log beside it, so that a nudge can be taken back. Whoever calls lends the table,
-// the log's words and how many nudges stand. What the calls keep throughout a sitting is in specs/Sitting.antt.
+// Start, accept, nudge and take-back over a table and its log, and what a sitting with a log is. Whoever calls lends
+// the table, the log's words and how many nudges stand. What the calls keep throughout a sitting is in
+// specs/Sitting.antt.
 use log::inside::PLACES;
 use log::inside::goes_with;
 use log::inside::index_of;

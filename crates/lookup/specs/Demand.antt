@@ -1,5 +1,5 @@
--- Demand 3's part on the 16-bit lookup: on every nondecreasing table of 1 to 65,536 entries, whatever keeps the lookup's promise obeys
--- these laws. Assumes nothing.
+-- Demand 3's part on the 16-bit lookup: laws that any code keeping the lookup's promise obeys, on every nondecreasing
+-- table of 1 to 65,536 entries. Assumes nothing.
 use Prim.Native.Nat.{ℕ, _≤_}
 use mathlib.Core.Path.{_≡_}
 use mathlib.Core.Bool.{true}
@@ -45,5 +45,7 @@ pub record LookupObeys (t : List ℕ) : Type 0 where
   pub first : (l : LookupIn t) → positionOf l ≡ 0 → sampleOf l ≡ getD t 0 0
   pub last : (l : LookupIn t) → positionOf l ≡ 65535 → sampleOf l ≡ lastEntry t
 
+-- What demand 3 asks of the lookup in every nondecreasing table of 1 to 65,536 entries: it is granted everywhere, never
+-- falls, lies between its bracketing entries, and is exact at both ends. [lookup::lut_interp_linear16]
 abbrev pub LookupDemand : Type 0
 LookupDemand = (t : List ℕ) → sized (length t) ≡ true → Nondecreasing t → LookupObeys t

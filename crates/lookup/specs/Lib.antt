@@ -1,4 +1,5 @@
--- `Lookup`: the definitions. `Promises`: what the call promises of them. `Demand`: what is demanded of a nondecreasing table. `Inside`: what inner functions ask.
+-- `Lookup`: the definitions. `Promises`: what the call promises of them. `Demand`: what is demanded of a nondecreasing
+-- table. `Inside`: preconditions.
 pub mod Lookup
 pub mod Promises
 pub mod Demand

@@ -1,6 +1,7 @@
--- The 16-bit lookup of document 01, and what the gamma lookup shares with it. A position or an input is v steps into the entries (document 01's V),
--- cap steps from each to the next: the 16-bit lookup has 65535 for cap, the gamma lookup N - 1. The entries are a function T of the index beside
--- their number n, so that a table is one source of them and others can share this. Assumes nothing.
+-- The 16-bit lookup of document 01, and what the gamma lookup shares with it. A position or an input lies v steps into
+-- the table (document 01's V), with cap steps from each entry to the next: cap is 65535 for the 16-bit lookup and N - 1
+-- for the gamma lookup. The entries are given as a function T of the index and their number n, so that a table is only
+-- one source of them. Assumes nothing.
 use Prim.Native.Nat.{ℕ, _+_, _-_, _*_, _/_, _%_}
 use mathlib.Core.List.{List}
 use lib.ListN.{length, getD}

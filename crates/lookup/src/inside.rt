@@ -1,4 +1,4 @@
-// The lookups' inner steps, over the divisor cap: no door of the library, since each asks something of its caller.
+// The steps of both lookups, over the divisor cap. Shared helpers with preconditions; not public.
 use table::inside::div_ceil;
 use table::inside::entry;
 use table::inside::wide;

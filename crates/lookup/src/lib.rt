@@ -1,4 +1,4 @@
-// Looking up a position in a table.
+// The 16-bit lookup, the density at a drive, and what it shares with the gamma lookup.
 use table::Density;
 use table::Drive;
 use table::Looked;

@@ -11,7 +11,8 @@ use Rattle.monotonic.specs.Steps.{yesNo, violations, monotonic}
 use Rattle.monotonic.specs.declared.Direction.{Direction}
 use Rattle.monotonic.specs.declared.Monotonic.{Monotonic}
 
--- Document 01's number and values for each case: a granted one has number 0, and a refused one has 0 in every other place.
+-- Document 01's number and values for each case: a granted one has number 0, and a refused one has 0 in every other
+-- place.
 abbrev pub numberOfMonotonic : Monotonic → ℕ
 numberOfMonotonic (Monotonic.Yes v) = 0
 numberOfMonotonic (Monotonic.No v) = 0

@@ -1,4 +1,5 @@
--- The violations of a direction, counted between neighbours, and when a table is monotonic. Assumes nothing.
+-- The violations of a direction, counted between neighbours, and when a table is monotonic: 20 × violations < entries,
+-- or fewer than 2 entries. Assumes nothing.
 use Prim.Native.Nat.{ℕ, _+_, _*_}
 use mathlib.Core.Bool.{Bool, true, false}
 use mathlib.Core.List.{List, [], _∷_}

@@ -1,4 +1,5 @@
-// Whether a curve goes one way, but for a few steps against it.
+// The verdict monotonic: 20 × violations < entries, where a violation is a step against the given direction. A table of
+// fewer than 2 entries is monotonic.
 use table::Refusal;
 use table::inside::entry;
 use table::not_above;
@@ -14,7 +15,7 @@ pub enum Direction {
     Falling,
 }
 
-// Whether the curve goes that way, and how many steps are against it.
+// The verdict, with the violations: how many steps are against the direction.
 pub enum Monotonic {
     Yes(usize),
     No(usize),
@@ -44,7 +45,7 @@ fn violations(table: &[u16], direction: Direction) -> usize
     count
 }
 
-// Whether the steps against the direction are fewer than one in twenty of n.
+// 20 × count < n.
 fn below_a_twentieth(n: usize, count: usize) -> bool
     requires { ⌜ count ≤ 65536 ⌝ }
     ensures { λ r. ⌜ r ≡ ltb (20 * count) n ⌝ }
@@ -52,7 +53,7 @@ fn below_a_twentieth(n: usize, count: usize) -> bool
     20 * count < n
 }
 
-// Whether so many steps against the direction are few enough for n entries.
+// Whether a table of n entries with `count` violations is monotonic.
 fn few_enough(n: usize, count: usize) -> bool
     requires { ⌜ count ≤ 65536 ⌝ }
     ensures { λ r. ⌜ r ≡ fewEnough n count ⌝ }
@@ -63,7 +64,7 @@ fn few_enough(n: usize, count: usize) -> bool
     below_a_twentieth(n, count)
 }
 
-// Whether the curve goes that way, with the steps that are against it.
+// Monotonic: 20 × violations < entries, or fewer than 2 entries. The verdict comes with the violations.
 pub fn is_curve_monotonic(table: &[u16], direction: Direction) -> Monotonic
     ensures { λ r. ⌜ MonotonicPromise (now (table .entry)) direction r ⌝ }
 {

@@ -1,5 +1,5 @@
--- A sitting as it goes: one call after the other, each with its answer and what it leaves. Only the promises are cited, so whatever keeps
--- them has such sittings. Assumes nothing.
+-- A sitting: calls one after the other, each with its answer and what it leaves. Only the promises are cited, so any
+-- code that keeps them has such sittings. Assumes nothing.
 use Prim.Native.Nat.{ℕ}
 use mathlib.Core.Path.{_≡_}
 use mathlib.Core.Bool.{Bool, true, false}
@@ -36,8 +36,8 @@ opens start = true
 opens accept = true
 opens (nudge i v) = false
 
--- A whole sitting on a lent table: a granted start or accept, and then any calls, granted or refused. Demand 3 has only nudges there;
--- this says more.
+-- A whole sitting on a lent table: a granted start or accept, and then any calls, granted or refused. Demand 3 has only
+-- nudges there; this says more.
 pub record WholeSitting (lent : Sitting) (opening : Turn) (turns : List Turn) : Type 0 where
   pub opened : opens (opening .call) ≡ true
   pub granted : opening .answer ≡ Done.Yes

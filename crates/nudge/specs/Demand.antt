@@ -15,6 +15,9 @@ pub record InOrder (lent s : Sitting) : Type 0 where
   pub size : sized (length (s .table)) ≡ true
   pub same-length : length (s .table) ≡ length (lent .table)
 
--- after the granted start or accept, and after each call that follows it, however many, granted or refused, the table is so
+-- after the granted start or accept, and after each call that follows it, however many, granted or refused, the table
+-- is so
 abbrev pub SittingDemand : Type 0
-SittingDemand = (lent : Sitting) (opening : Turn) (turns : List Turn) → WholeSitting lent opening turns → Throughout (InOrder lent) (opening .after) turns
+SittingDemand =
+    (lent : Sitting) (opening : Turn) (turns : List Turn) → WholeSitting lent opening turns
+    → Throughout (InOrder lent) (opening .after) turns

@@ -12,8 +12,8 @@ use Rattle.table.specs.declared.Done.{Done}
 use Rattle.table.specs.declared.Refusal.the-variants.{TableLength, NotNondecreasing, IndexBeyond, OutsideNeighbours}
 use Rattle.curve.specs.Promises.{Sitting}
 
--- Nudge of entry i to v: refused for the table's length, 1; for an index beyond the table, 3; for a table that is not nondecreasing, 2;
--- for a v below the left or above the right neighbour, 4. It sets that entry and changes no other.
+-- Nudge of entry i to v: refused for the table's length, 1; for an index beyond the table, 3; for a table that is not
+-- nondecreasing, 2; for a v below the left or above the right neighbour, 4. It sets that entry and changes no other.
 abbrev pub nudgeVerdict : Sitting → ℕ → ℕ → Verdict
 nudgeVerdict s i v =
     rung (sized (length (s .table))) TableLength

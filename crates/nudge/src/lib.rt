@@ -1,4 +1,5 @@
-// The nudge of one entry of a curve's table. What it keeps throughout a sitting, and so demand 3's part on the table, is in proofs/Sitting.antt.
+// The nudge of one entry of a curve's table, and what a sitting is. What holds throughout every sitting, demand 3's
+// part on the table, is in specs/Demand.antt.
 use table::Density;
 use table::Done;
 use table::Refusal;

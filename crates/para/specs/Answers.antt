@@ -1,4 +1,5 @@
--- Document 01's number and values for each case of a reading's answer: refused, it has 0 in each of the eight places. Assumes nothing.
+-- Document 01's number and values for each case of a reading's answer: a refused one has 0 in each of its eight places.
+-- Assumes nothing.
 use Prim.Native.Nat.{ℕ}
 use lib.IntN.{pos}
 use Rattle.table.specs.Refusals.{numberOf}

@@ -1,4 +1,5 @@
--- `Signed`: two's complement. `Tag`: what a para tag is. `Answers`: the answer of a reading. `Promises`: a tag's checks, and what a reading promises.
+-- `Signed`: two's complement. `Tag`: what a para tag is. `Answers`: the answer of a reading. `Promises`: a tag's
+-- checks, and what a reading promises.
 pub mod Signed
 pub mod Tag
 pub mod Answers

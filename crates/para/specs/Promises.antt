@@ -11,8 +11,8 @@ use Rattle.para.specs.declared.Read.{Read}
 use Rattle.para.specs.Answers.{numberOfRead, countOfRead, numbersOfRead, noNumbers}
 use Rattle.para.specs.Tag.{signature, typeOf, reservedAfter, countOf, tagLength, numbersOf}
 
--- The tag's own checks, which every call that reads a tag makes: fewer than 12 bytes, 8; a wrong signature, 9; a reserved byte that is not zero,
--- among bytes 4 to 7 or 10 and 11, 10; a function type above 4, 11; a wrong total, 8.
+-- The tag's own checks, which every call that reads a tag makes: fewer than 12 bytes, 8; a wrong signature, 9; a
+-- reserved byte that is not zero, among bytes 4 to 7 or 10 and 11, 10; a function type above 4, 11; a wrong total, 8.
 unfoldable pub tagVerdict : List ℕ → Verdict
 tagVerdict b =
     rung (leb 12 (length b)) TagLength

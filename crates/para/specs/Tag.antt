@@ -1,5 +1,5 @@
--- The para tag of ICC.1, byte by byte: 70 61 72 61 (hexadecimal), four zero bytes, a 16-bit function type t, two zero bytes, then 1, 3, 4, 5 or 7
--- signed 16.16 numbers for t = 0 to 4. Assumes nothing.
+-- The para tag of ICC.1, byte by byte: 70 61 72 61 (hexadecimal), four zero bytes, a 16-bit function type t, two zero
+-- bytes, then 1, 3, 4, 5 or 7 signed 16.16 numbers for t = 0 to 4. Assumes nothing.
 use Prim.Native.Nat.{ℕ, _+_, _*_, _<_}
 use mathlib.Core.List.{List, [], _∷_}
 use lib.ListN.{getD}

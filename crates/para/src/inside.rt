@@ -1,4 +1,4 @@
-// What reading and writing share: no door of the library.
+// Shared helpers of the para crates, with preconditions; not public.
 ghost use mathlib.Core.Path.{_≡_};
 ghost use Prim.Native.Nat.{_≤_};
 ghost use Rattle.para.specs.Tag.{countOf, tagLength};

@@ -1,4 +1,4 @@
-// The para tag of ICC.1: its checks, and its numbers read.
+// The para tag of ICC.1 checked, and its numbers read.
 use icc::inside::u16_at;
 use icc::inside::u32_at;
 use table::Refusal;

@@ -14,7 +14,8 @@ use Rattle.parametric.specs.Promises.{numberOfUnified, valueOfUnified, noCurve}
 use Rattle.para.specs.Tag.{typeOf, countOf, rawAt}
 use Rattle.para.specs.Promises.{tagVerdict}
 
--- Reading a tag as a curve: refused as the tag is. A raw number r becomes the f32 nearest to r / 65536, and the curve is unified from these.
+-- Reading a tag as a curve: refused as the tag is. A raw number r becomes the f32 nearest to r / 65536, and the curve
+-- is unified from these.
 abbrev pub nearest : ℤ → Float
 nearest r = ratio r 65536
 

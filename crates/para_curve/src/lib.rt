@@ -1,4 +1,4 @@
-// A para tag read as a curve.
+// A para tag read as a parametric curve.
 use para::Numbers;
 use para::Read;
 use para::read_para;

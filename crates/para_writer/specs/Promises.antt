@@ -1,4 +1,5 @@
--- What writing promises: when it is refused and by which number, and what the lent buffer holds after it. Assumes nothing.
+-- What writing promises: when it is refused and by which number, and what the lent buffer holds after it. Assumes
+-- nothing.
 use Prim.Native.Nat.{ℕ}
 use mathlib.Core.Path.{_≡_}
 use mathlib.Core.List.{List}
@@ -12,7 +13,8 @@ use Rattle.para.specs.declared.Numbers.{Numbers}
 use Rattle.para.specs.Tag.{countOf, tagLength}
 use Rattle.para_writer.specs.Written.{tagOf}
 
--- Writing a type and seven numbers as a tag: refused for a type above 4, 11; for a buffer of other than 12 plus four bytes for each number, 6.
+-- Writing a type and seven numbers as a tag: refused for a type above 4, 11; for a buffer of other than 12 plus four
+-- bytes for each number, 6.
 abbrev pub writeVerdict : ℕ → List ℕ → Verdict
 writeVerdict t out =
     rung (leb t 4) FunctionType

@@ -1,4 +1,5 @@
--- What is written for a function type and seven numbers: the para tag of those that the type has, byte by byte. Assumes nothing.
+-- What is written for a function type and seven numbers: the para tag of those that the type has, byte by byte. Assumes
+-- nothing.
 use Prim.Native.Nat.{ℕ, suc, _-_}
 use mathlib.Core.List.{List, _++_, map}
 use lib.ListN.{take}

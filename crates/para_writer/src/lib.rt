@@ -1,4 +1,5 @@
-// A function type and its numbers written as the para tag of ICC.1.
+// A function type and its numbers written as the para tag of ICC.1, and both round trips. The round trips are proved in
+// proofs/RoundTrip.antt.
 use icc::inside::put_opening;
 use icc::inside::put_u16;
 use icc::inside::put_u32;

@@ -1,5 +1,5 @@
--- Document 01's sentences on the unified curve, one record each, field by field. `Unify` makes the curve of a list;
--- these read the list off the curve. Assumes nothing.
+-- Document 01's sentences on the unified curve, one record each, field by field. `Unify` makes a curve from a list of
+-- parameters; these records say of a curve and a list whether the sentence holds. Assumes nothing.
 use mathlib.Core.Path.{_≡_}
 use Prim.Native.Nat.{ℕ}
 use mathlib.Core.List.{List, [], _∷_}

@@ -1,4 +1,5 @@
--- `Unify` and `Compare`: the definitions. `Promises`: what the calls promise of them. `Counts`: what every unified curve obeys, sentence by sentence.
+-- `Unify` and `Compare`: the definitions. `Promises`: what the calls promise of them. `Counts`: document 01's sentences
+-- on every unified curve.
 pub mod Unify
 pub mod Compare
 pub mod Promises

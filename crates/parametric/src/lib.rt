@@ -137,7 +137,8 @@ fn of_params(params: &[f32]) -> ParametricCurve
 }
 
 impl ParametricCurve {
-    // One shape of curve for every count: whoever works with it need not know which function type the parameters came from.
+    // One shape of curve for every count: whoever works with it need not know which function type the parameters came
+    // from.
     pub fn new(params: &[f32]) -> Unified
         ensures { λ r. ⌜ NewPromise (now (params .entry)) r ⌝ }
     {

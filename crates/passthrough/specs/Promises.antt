@@ -1,4 +1,5 @@
--- What the call of this crate promises: when it is refused and by which number, and what the lent buffer holds after it. Assumes nothing.
+-- What the call of this crate promises: when it is refused and by which number, and what the lent buffer holds after
+-- it. Assumes nothing.
 use mathlib.Core.Path.{_≡_}
 use mathlib.Core.List.{List}
 use lib.ListN.{length}

@@ -1,4 +1,4 @@
-// The table of floats that passes its input through.
+// The passthrough table of floats: entry i of n is i·(1/(n-1)).
 use rounding::nearest_f64_to_f32;
 use table::Done;
 use table::Refusal;

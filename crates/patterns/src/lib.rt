@@ -1,4 +1,4 @@
-// Bit patterns as floats. Rattle makes no float of a NaN's pattern, so one NaN stands for all of them.
+// Floats by their bit patterns. Rattle makes no float of a NaN's pattern, so one NaN stands for all of them.
 ghost use mathlib.Core.Path.{_≡_};
 ghost use lib.Ieee.{binary32, binary64, ofBits};
 

@@ -1,6 +1,5 @@
-// A curve's picture as text: the lines of a plot for a terminal, and the pieces of an svg file for a browser. Drive
-// runs across and density up.
-// Nothing is read or written here: the caller lends a buffer and sends it on.
+// A curve's picture as text: a plot for a terminal, and the pieces of an svg file for a browser. Drive runs across and
+// density up. Nothing is read or written here: the caller lends a buffer and sends it on.
 use table::sized;
 ghost use mathlib.Core.Path.{_≡_};
 ghost use lib.ListN.{length};

@@ -1,4 +1,4 @@
--- Where a drive and a density are drawn. Rows count from the top, as an svg's y does, so each falls as density rises.
+-- Where a drive and a density are drawn. Rows count from the top, as an svg's y does, so both fall as density rises.
 -- Assumes nothing.
 use Prim.Native.Nat.{ℕ, _-_, _*_, _/_}
 use mathlib.Core.List.{List}

@@ -1,5 +1,5 @@
-// What asks something of its caller: the drive of a column, and how low and how high a curve goes over a span of
-// drives. Every drive is looked up, so that no spike goes unseen.
+// The drive of a column, and how low and how high a curve goes over a span of drives. Every drive is looked up, so that
+// no spike goes unseen. Shared helpers with preconditions; not public.
 use crate::place::density_at;
 use table::Density;
 use table::Drive;

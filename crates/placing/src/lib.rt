@@ -1,3 +1,3 @@
-// Where a picture of a curve has what: for the plot and the svg of `picture` alike.
+// Where drives and densities are drawn, in the plot and the svg of `picture` alike.
 pub mod inside;
 pub mod place;

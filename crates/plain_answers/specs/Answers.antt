@@ -1,5 +1,5 @@
--- The places of each answer that crosses: document 01's number, and its values, which are 0 where the answer is a refusal; and the version of these
--- places. Assumes nothing.
+-- The fields of each answer as C and Rust see it: document 01's number, and its values, which are 0 where the answer is
+-- a refusal. Also the version of these structs. Assumes nothing.
 use Prim.Native.Nat.{ℕ}
 use mathlib.Core.Bool.{Bool, true, false}
 use lib.Dec.{eqb}
@@ -56,7 +56,8 @@ asDirection true = Rising
 asDirection false = Falling
 
 abbrev pub asMonotony : Monotonic → Monotony
-asMonotony l = record { refusal = numberOfMonotonic l; yes = eqb (yesOfMonotonic l) 1; violations = violationsOfMonotonic l }
+asMonotony l =
+    record { refusal = numberOfMonotonic l; yes = eqb (yesOfMonotonic l) 1; violations = violationsOfMonotonic l }
 
 abbrev pub asDegeneration : Degenerated → Degeneration
 asDegeneration l = record { refusal = numberOfDegenerated l; yes = eqb (yesOfDegenerated l) 1 }

@@ -1,2 +1,2 @@
--- `Answers`: the places of each answer that crosses.
+-- `Answers`: the fields of each answer as C and Rust see it.
 pub mod Answers

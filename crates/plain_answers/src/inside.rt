@@ -1,4 +1,4 @@
-// Each answer of the library turned into its places, and C's bool into a direction: for the face alone, no door of the library.
+// Each answer of the library turned into its struct, and C's bool into a direction. For the face alone; not public.
 use crate::Code;
 use crate::Count;
 use crate::Degeneration;
@@ -26,7 +26,8 @@ use table::Sought;
 use table::number;
 ghost use mathlib.Core.Path.{_≡_};
 ghost use Rattle.table.specs.Answers.{numberOfDone};
-ghost use Rattle.plain_answers.specs.Answers.{asSample, asPosition, asCode, asReal, asParametric, asDirection, asMonotony, asDegeneration, asCount, asPara};
+ghost use Rattle.plain_answers.specs.Answers.{asSample, asPosition, asCode, asReal, asParametric, asDirection};
+ghost use Rattle.plain_answers.specs.Answers.{asMonotony, asDegeneration, asCount, asPara};
 
 pub fn number_of_done(answer: Done) -> u32
     ensures { λ r. ⌜ r ≡ numberOfDone answer ⌝ }

@@ -1,5 +1,6 @@
-// The library's answers as C and Rust see them: each a struct of plain places, the refusal's number first and 0 in every other place of a refused one.
-// include/brassgroat.h has the same structs; the face, brassgroat, hands them over.
+// The library's answers as C and Rust see them: each a struct of plain fields. The refusal's number comes first, and
+// every other field of a refused answer is 0. include/brassgroat.h has the same structs; the face, brassgroat, hands
+// them over.
 use para::Numbers;
 use parametric::ParametricCurve;
 use table::Density;
@@ -9,8 +10,8 @@ ghost use Rattle.plain_answers.specs.Answers.{version};
 
 pub mod inside;
 
-// Which version of these structs, and of the exports over them, this is: 10,000 times its first number, 100 times its second, and its third. A program
-// that was built against another one's header or Rust crate can tell by it.
+// Which version of these structs, and of the exports over them, this is: 10,000 times its first number, 100 times its
+// second, and its third. A program that was built against another one's header or Rust crate can tell by it.
 pub fn version() -> u32
     ensures { λ r. ⌜ r ≡ version ⌝ }
 {
@@ -52,7 +53,7 @@ pub struct Parametric {
     pub curve: ParametricCurve,
 }
 
-// Whether a curve goes one way, and how many steps are against it.
+// The verdict monotonic, and the violations: how many steps are against the direction.
 #[repr(C)]
 pub struct Monotony {
     pub refusal: u32,
@@ -60,7 +61,7 @@ pub struct Monotony {
     pub violations: usize,
 }
 
-// Whether a curve stands still at an end.
+// The verdict degenerated.
 #[repr(C)]
 pub struct Degeneration {
     pub refusal: u32,

@@ -1,4 +1,4 @@
--- What the steps of the square root keep among themselves. Assumes nothing.
+-- What every guess at a square root keeps. Assumes nothing.
 use Prim.Native.Nat.{ℕ, _+_, _*_, _≤_, _<_}
 
 -- g is not below the whole root of v, and its square is within 64 bits

@@ -1,4 +1,4 @@
-// The whole square root, and a power by sixteen of them. For the crates above: no door of the library.
+// The whole square root, and a power by sixteen of them. Shared helpers, not public; `power` has a precondition.
 ghost use mathlib.Core.Path.{_≡_};
 ghost use Prim.Native.Nat.{_*_, _≤_};
 ghost use Rattle.power.specs.Root.{IsRoot, root};

@@ -1,2 +1,2 @@
-// Powers on whole numbers, by square roots.
+// The whole square root, and a power worked out by sixteen of them.
 pub mod inside;

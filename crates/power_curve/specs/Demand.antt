@@ -1,4 +1,4 @@
--- What document 02 asks of gamma curves, (iv), of whatever keeps the promises. Assumes nothing.
+-- What document 02, (iv), asks of gamma curves, stated of any code that keeps the promises. Assumes nothing.
 use Prim.Native.Nat.{ℕ, _+_, _-_, _*_, _^_, _≤_, _<_}
 use mathlib.Core.Path.{_≡_}
 use mathlib.Core.Bool.{true}

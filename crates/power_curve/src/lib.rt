@@ -1,5 +1,5 @@
-// Gamma curves worked out on whole numbers: one value or a whole table, by an exponent in 65536ths or by the entry of a
-// gamma tag.
+// Gamma curves worked out on whole numbers: one value or a whole table, by an exponent in 65536ths or by a gamma tag's
+// entry.
 use curve::inside::ramp;
 use power::inside::power as power_of;
 use table::Density;

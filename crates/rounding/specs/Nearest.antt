@@ -1,4 +1,5 @@
--- The f32 nearest to an f64 and to a fixed-point number, ties to even: the kit's `round` of the exact value. Assumes nothing.
+-- The f32 nearest to an f64 and to a fixed-point number, ties to even: the kit's `round` of the exact value. Assumes
+-- nothing.
 use mathlib.Core.Path.{_≡_}
 use Prim.Native.Nat.{ℕ, suc, _*_}
 use mathlib.Core.Bool.{true, false}

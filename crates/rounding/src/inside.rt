@@ -1,4 +1,4 @@
-// Floor and ceil of a number from 0 to 65,536: no doors of the library, since they ask for the range.
+// Floor and ceil. Not public: they have a precondition, that the number is from 0 to 65,536.
 ghost use lib.Dec.{T};
 ghost use Rattle.ieee.specs.Range.{upto};
 ghost use Rattle.rounding.specs.Cut.{FloorPromise, CeilPromise};

@@ -1,5 +1,5 @@
-// Rounding that Rattle's `as` leaves to the program: an f64 to the nearest f32, fixed-point numbers to f32, and the lesser and the size of floats.
-// Floor and ceil, which ask for a number in range, stand in `inside`.
+// Rounding that Rattle's `as` leaves to the program: f64 and fixed-point numbers to the nearest f32; floor, ceil, min
+// and abs. Floor and ceil, which have a precondition, stand in `inside`.
 ghost use Prim.Native.Nat.{_+_, _<_, _≤_};
 ghost use mathlib.Core.Path.{_≡_};
 ghost use mathlib.Core.Bool.{Bool, cond};
@@ -10,7 +10,8 @@ ghost use Rattle.rounding.specs.Size.{MinPromise, AbsPromise};
 
 pub mod inside; // inside.rt: floor and ceil
 
-// n / d to the nearest whole number, a tie to the even one. One test decides, so that no branch hangs on digits that are as good as random.
+// n / d to the nearest whole number, a tie to the even one. One test decides, so that no branch hangs on digits that
+// are as good as random.
 fn nearest_quotient(n: u64, d: u64) -> u64
     requires { ⌜ 0 < d ⌝ ∗ ⌜ d ≤ 0x4000_0000_0000_0000 ⌝ ∗ ⌜ n < 0x4000_0000_0000_0000 ⌝ }
     ensures { λ r. ⌜ r ≡ closest n d ⌝ }
@@ -23,12 +24,14 @@ fn nearest_quotient(n: u64, d: u64) -> u64
     q
 }
 
-// The bit pattern, without its sign, of the f32 nearest to the f64 that has `exponent` in its exponent's field and `digits` in the one below.
-// An f64's exponent is 896 above an f32's of the same number, and its digits are 29 more. From 1151 on the number is too large, up to 872 it is
-// less than half of the smallest f32, and from there to 896 the f32 is subnormal, with one digit less for each step down.
+// The bit pattern, without its sign, of the f32 nearest to the f64 that has `exponent` in its exponent's field and
+// `digits` in the one below. An f64's exponent is 896 above an f32's of the same number, and its digits are 29 more.
+// From 1151 on the number is too large, up to 872 it is less than half of the smallest f32, and from there to 896 the
+// f32 is subnormal, with one digit less for each step down.
 fn magnitude(exponent: u64, digits: u64) -> u64
     requires { ⌜ exponent ≤ 2047 ⌝ ∗ ⌜ digits < 0x10_0000_0000_0000 ⌝ ∗ ⌜ (exponent ≡ 2047 → digits ≡ 0) ⌝ }
-    ensures { λ r. ⌜ r ≤ 0x7f80_0000 ⌝ ∗ ⌜ ((s : Bool) → ofBits binary32 (cond s 0x8000_0000 0 + r) ≡ narrow (ofFields binary64 s exponent digits)) ⌝ }
+    ensures { λ r. ⌜ r ≤ 0x7f80_0000 ⌝
+        ∗ ⌜ ((s : Bool) → ofBits binary32 (cond s 0x8000_0000 0 + r) ≡ narrow (ofFields binary64 s exponent digits)) ⌝ }
 {
     if exponent >= 1151 {
         return 0x7f80_0000;

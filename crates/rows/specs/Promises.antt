@@ -1,5 +1,5 @@
--- What each call of this crate promises: when it is refused and by which number, and what the lent buffer holds after it.
--- Assumes nothing.
+-- What each call of this crate promises: when it is refused and by which number, and what the lent buffer holds after
+-- it. Assumes nothing.
 use Prim.Native.Nat.{ℕ}
 use mathlib.Core.Path.{_≡_}
 use mathlib.Core.List.{List}
@@ -24,7 +24,8 @@ pub record RowPromise (t positions out : List ℕ) (r : Done) (out′ : List ℕ
   pub number : numberOfDone r ≡ numberIn (rowVerdict t positions out)
   pub after : out′ ≡ ifGranted (rowVerdict t positions out) (rowOf t positions) out
 
--- A table's baked form, the answers at every position: refused for the table's length, 1; for an output of other than 65,536 entries, 6.
+-- A table's baked form, the answers at every position: refused for the table's length, 1; for an output of other than
+-- 65,536 entries, 6.
 abbrev pub bakeVerdict : List ℕ → List ℕ → Verdict
 bakeVerdict t out =
     rung (sized (length t)) TableLength

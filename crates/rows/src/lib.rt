@@ -1,4 +1,4 @@
-// Many lookups in one table: at a row of positions, and at every position (baked).
+// Many lookups in one table: at a row of drives, and at every drive (the baked table).
 use lookup::inside::lookup_to;
 use table::Done;
 use table::Refusal;
@@ -79,7 +79,8 @@ fn fill_baked(table: &[u16], out: &mut [u16])
     }
 }
 
-// Fills `out` with the table's answers at every position. The 16-bit lookup in it answers as in the table, and a row of them takes one load each.
+// Fills `out` with the table's answers at every position. The 16-bit lookup in it answers as in the table, and a row of
+// them takes one load each.
 pub fn bake(table: &[u16], out: &mut [u16]) -> Done
     ensures { λ r. ⌜ BakePromise (now (table .entry)) (now (out .entry)) r (now (out .exit)) ⌝ }
 {

@@ -1,4 +1,4 @@
--- Choosing by a test that computes. Assumes nothing.
+-- One of two things by a test, and whether two tests hold. Assumes nothing.
 use mathlib.Core.Bool.{Bool, true, false}
 
 -- the first where the test holds, else the second

@@ -1,4 +1,4 @@
--- A list given entry by entry: how a promise tells what a buffer holds that a call has filled. Assumes nothing.
+-- A list given entry by entry: how a promise says what a filled buffer holds. Assumes nothing.
 use Prim.Native.Nat.{ℕ, zero, suc}
 use mathlib.Core.List.{List, [], _∷_, _++_}
 

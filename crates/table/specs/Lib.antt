@@ -1,4 +1,4 @@
--- What the crates' promises and definitions are written in.
+-- The definitions that the promises of all crates are written in.
 pub mod Choice
 pub mod Refusals
 pub mod Answers

@@ -1,5 +1,5 @@
--- A nondecreasing table, as a test that computes and as a fact of every two entries; a table that may be worked on; and an entry that
--- fits between its neighbours. Assumes nothing.
+-- A nondecreasing table, as a test that computes and as a fact of every two entries; a table that may be worked on; and
+-- an entry that fits between its neighbours. Assumes nothing.
 use Prim.Native.Nat.{ℕ, _+_, _-_, _≤_, _<_}
 use mathlib.Core.Path.{_≡_}
 use mathlib.Core.Bool.{Bool, true}

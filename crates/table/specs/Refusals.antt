@@ -3,7 +3,11 @@
 use Prim.Native.Nat.{ℕ}
 use mathlib.Core.Bool.{Bool, true, false}
 use Rattle.table.specs.declared.Refusal.{Refusal}
-use Rattle.table.specs.declared.Refusal.the-variants.{TableLength, NotNondecreasing, IndexBeyond, OutsideNeighbours, AboveLast, OutputLength, ParameterCount, TagLength, WrongSignature, ReservedNotZero, FunctionType, OutsideRange, OutsideUnit, LogFull, NothingToTakeBack, BadLog, Exponent}
+use Rattle.table.specs.declared.Refusal.the-variants.{TableLength, NotNondecreasing, IndexBeyond}
+use Rattle.table.specs.declared.Refusal.the-variants.{OutsideNeighbours, AboveLast, OutputLength, ParameterCount}
+use Rattle.table.specs.declared.Refusal.the-variants.{TagLength, WrongSignature, ReservedNotZero, FunctionType}
+use Rattle.table.specs.declared.Refusal.the-variants.{OutsideRange, OutsideUnit, LogFull, NothingToTakeBack}
+use Rattle.table.specs.declared.Refusal.the-variants.{BadLog, Exponent}
 
 -- the number of each refusal, row by row; 0 is no refusal's
 abbrev pub numberOf : Refusal → ℕ
@@ -46,7 +50,8 @@ abbrev pub numberIn : Verdict → ℕ
 numberIn granted = 0
 numberIn (refused why) = numberOf why
 
--- what is given where the call is granted, and what stands there otherwise: for a value 0, for a lent buffer what it held
+-- what is given where the call is granted, and what stands there otherwise: for a value 0, for a lent buffer what it
+-- held
 abbrev pub ifGranted : {A : Type 0} → Verdict → A → A → A
 ifGranted granted given otherwise = given
 ifGranted (refused why) given otherwise = otherwise

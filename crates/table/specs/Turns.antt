@@ -1,5 +1,5 @@
--- Calls one after the other, each with its answer and what it leaves: a sitting as it goes, over any state and any kind
--- of call. Assumes nothing.
+-- Calls one after the other, each with its answer and what it leaves: a sitting, for any state and any kind of call.
+-- Assumes nothing.
 use mathlib.Core.List.{List, [], _∷_}
 use Rattle.table.specs.declared.Done.{Done}
 

@@ -1,4 +1,4 @@
-// What the crates share among themselves and what asks something of its caller: no door of the library.
+// Shared helpers, some with preconditions; not public.
 ghost use mathlib.Core.Path.{_≡_};
 ghost use Prim.Native.Nat.{_≤_, _<_};
 ghost use lib.ListN.{length, getD};

@@ -1,5 +1,5 @@
-// What every crate of the box speaks of: positions and samples, the numbered refusals and the answers that
-// carry them, how long a table may be, and whether it is nondecreasing.
+// What the crates share: `Drive` and `Density`, refusals and answers, table lengths, order, runs, filled buffers, calls
+// in turn.
 ghost use mathlib.Core.Path.{_≡_};
 ghost use Rattle.table.specs.Refusals.{numberOf};
 ghost use Rattle.table.specs.Sizes.{within, sized, spanned, notAbove};
@@ -16,43 +16,25 @@ pub struct Drive(pub u16);
 pub struct Density(pub u16);
 
 // Why a call is refused: a case for each row of document 01, and for each that a request of document 02 has added, in
-// the order of their numbers.
+// the order of their numbers. What each means stands once, as a sentence in `bg_refusal_text` of include/brassgroat.h.
 pub enum Refusal {
-    // 1: the table's length is 0 or above 65,536; of a start and of a gamma curve, below 2 or above; of some calls,
-    // only above
-    TableLength,
-    // 2: the table is not nondecreasing
-    NotNondecreasing,
-    // 3: the index is beyond the table, or the gamma lookup's input at or above its N
-    IndexBeyond,
-    // 4: a nudged entry would be below its left or above its right neighbour
-    OutsideNeighbours,
-    // 5: the least-input inverse of a value above the last entry
-    AboveLast,
-    // 6: the output buffer is not exactly as long as needed
-    OutputLength,
-    // 7: a parametric curve has 1, 3, 4, 5 or 7 parameters
-    ParameterCount,
-    // 8: a tag of fewer than 12 bytes, or of the wrong total length
-    TagLength,
-    // 9: another tag's signature
-    WrongSignature,
-    // 10: a reserved byte of a tag is not zero
-    ReservedNotZero,
-    // 11: a parametric tag's function type is above 4
-    FunctionType,
-    // 12: a number that says how much is outside its range: the gamma lookup's N or depth, the length of an inverted or a passthrough table
-    OutsideRange,
-    // 13: the input of `lut_interp_linear` is not from 0 to 1
-    OutsideUnit,
-    // 15: the log is full
-    LogFull,
-    // 16: no nudge stands, so there is nothing to take back
-    NothingToTakeBack,
-    // 17: the log's count is above its places, or on take-back its last record does not go with the table
-    BadLog,
-    // 18: an exponent is outside its range
-    Exponent,
+    TableLength, // 1
+    NotNondecreasing, // 2
+    IndexBeyond, // 3
+    OutsideNeighbours, // 4
+    AboveLast, // 5
+    OutputLength, // 6
+    ParameterCount, // 7
+    TagLength, // 8
+    WrongSignature, // 9
+    ReservedNotZero, // 10
+    FunctionType, // 11
+    OutsideRange, // 12
+    OutsideUnit, // 13
+    LogFull, // 15
+    NothingToTakeBack, // 16
+    BadLog, // 17
+    Exponent, // 18
 }
 
 // The answer of a call that only does something.

@@ -1,5 +1,5 @@
--- Document 01's "Numbers on both sides", in its order: each is the answer that the public promise names, and the laws `..-one` say that it names no other.
--- Assumes nothing.
+-- Document 01's "Numbers on both sides", in its order: each is the answer that the public promise names. The laws
+-- `..-one` say that the promise names no other. Assumes nothing.
 use Prim.Native.Nat.{ℕ}
 use mathlib.Core.List.{[], _∷_}
 use Rattle.table.specs.declared.Drive.{Drive}

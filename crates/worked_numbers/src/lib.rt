@@ -1,1 +1,2 @@
-// Document 01's thirteen numbers, as one listing under one statement. There is no code: the listing stands in specs/, its proof in proofs/.
+// Document 01's thirteen worked numbers, as one listing under one statement. There is no code: the listing is in
+// specs/, its proof in proofs/.
