@@ -1,4 +1,5 @@
--- `count_entries` meets its contract: each answer is that of the first test that fails, past those that hold. Assumes nothing.
+-- `count_entries` meets its contract: each answer is that of the first test that fails, past those that hold. Assumes
+-- nothing.
 use native.Mathlib.Omega.{arith}
 use borrow.Author.Needs.{needs}
 use Rattle.curv.proofs.Checks.{short, unsigned, unreserved, many, total-right, total-other, unwhole, right}

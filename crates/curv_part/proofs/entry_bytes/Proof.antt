@@ -1,4 +1,5 @@
--- `entry_bytes` meets its contract: refused as the count is, with an empty part; otherwise the part lies within the tag by its total. Assumes nothing.
+-- `entry_bytes` meets its contract: it is refused as the count is, with an empty part; otherwise the tag's tested total
+-- keeps the part within the tag. Assumes nothing.
 use mathlib.Core.Path.{_≡_, refl, ap}
 use Prim.Native.Nat.{ℕ, _-_, _*_}
 use native.Mathlib.Nat.{zero-add}
@@ -35,8 +36,10 @@ returns c =
     let told = c .before .before .before in
     let called = told .before .before in
     let tag = called .before .before .args .tag in
-    let e = refused-count (tag .now) (called .count-entries .result) (called .count-entries .ensures) (told .refusal .given .0 .0) (cc) in
-    part-meets tag _ _ (refused (told .refusal .given .0 .0)) e (c .before .number .ensures) refl (ap (λ (o : ℕ). (tag .ptr .0, o)) (zero-add (tag .ptr .1)))
+    let e = refused-count (tag .now) (called .count-entries .result) (called .count-entries .ensures)
+    (told .refusal .given .0 .0) (cc) in
+    part-meets tag _ _ (refused (told .refusal .given .0 .0)) e (c .before .number .ensures) refl
+    (ap (λ (o : ℕ). (tag .ptr .0, o)) (zero-add (tag .ptr .1)))
 
 enum-known-n : tie.Need-enum-known-n
 enum-known-n c = search needs
@@ -45,7 +48,8 @@ tag-length-requires : tie.Need-tag-length-requires
 tag-length-requires c κs =
     let called = c .before .before .before in
     let tag = called .before .before .args .tag in
-    granted-count (tag .now) (called .count-entries .result) (called .count-entries .ensures) (c .before .n .given .0 .0) (cc) .few
+    granted-count (tag .now) (called .count-entries .result) (called .count-entries .ensures)
+    (c .before .n .given .0 .0) (cc) .few
 
 sub-result-2 : tie.Need-sub-result-2
 sub-result-2 c = search needs
@@ -58,7 +62,8 @@ part-result-end-2 c =
     let told = c .before .before in
     let called = told .before .before in
     let tag = called .before .before .args .tag in
-    let g = granted-count (tag .now) (called .count-entries .result) (called .count-entries .ensures) (told .n .given .0 .0) (cc) in
+    let g = granted-count (tag .now) (called .count-entries .result) (called .count-entries .ensures)
+    (told .n .given .0 .0) (cc) in
     omega arith
 
 returns-2 : tie.Need-returns-2
@@ -66,7 +71,8 @@ returns-2 c =
     let told = c .before .before .before in
     let called = told .before .before in
     let tag = called .before .before .args .tag in
-    let g = granted-count (tag .now) (called .count-entries .result) (called .count-entries .ensures) (told .n .given .0 .0) (cc) in
+    let g = granted-count (tag .now) (called .count-entries .result) (called .count-entries .ensures)
+    (told .n .given .0 .0) (cc) in
     let part : c .before .tag-length .result - 12 ≡ 2 * countOf (tag .now) = omega arith in
     part-meets tag _ _ granted (g .verdict) refl (ap (λ (k : ℕ). take k (drop 12 (tag .now))) part) refl
 

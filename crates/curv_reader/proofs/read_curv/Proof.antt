@@ -1,4 +1,5 @@
--- `read_curv` meets its contract: refused as the count is, then for the buffer's length, and filled otherwise. Assumes nothing.
+-- `read_curv` meets its contract: refused as the count is, then for the buffer's length, and filled otherwise. Assumes
+-- nothing.
 use native.Mathlib.Omega.{arith}
 use Rattle.curv.proofs.Promises.{refused-count, granted-count}
 use Rattle.curv_reader.proofs.Promises.{read-refused, read-misfit, read-granted}
@@ -20,7 +21,8 @@ returns c =
     let called = c .before .before .before .before in
     let start = called .before .before .before in
     let n = c .before .before .n .given .0 .0 in
-    let g = granted-count (start .args .tag .now) (called .count-entries .result) (called .count-entries .ensures) n (cc) in
+    let g = granted-count (start .args .tag .now) (called .count-entries .result)
+    (called .count-entries .ensures) n (cc) in
     read-misfit _ _ (g .verdict) (λ e. omega arith)
 
 fill-requires : tie.Need-fill-requires
@@ -28,14 +30,16 @@ fill-requires c κs =
     let called = c .before .before .before .before .before in
     let start = called .before .before .before in
     let n = c .before .before .before .n .given .0 .0 in
-    let g = granted-count (start .args .tag .now) (called .count-entries .result) (called .count-entries .ensures) n (cc) in
+    let g = granted-count (start .args .tag .now) (called .count-entries .result)
+    (called .count-entries .ensures) n (cc) in
     omega arith
 
 returns-2 : tie.Need-returns-2
 returns-2 c =
     let called = c .before .before .before in
     let start = called .before .before .before in
-    read-refused _ _ _ (refused-count (start .args .tag .now) (called .count-entries .result) (called .count-entries .ensures) _ (cc))
+    read-refused _ _ _
+    (refused-count (start .args .tag .now) (called .count-entries .result) (called .count-entries .ensures) _ (cc))
 
 same-length : tie.Need-same-length
 same-length c = search needs
@@ -45,7 +49,8 @@ returns-3 c =
     let called = c .before .before .before .before .before .before .before .before in
     let start = called .before .before .before in
     let n = c .before .before .before .before .before .before .n .given .0 .0 in
-    let g = granted-count (start .args .tag .now) (called .count-entries .result) (called .count-entries .ensures) n (cc) in
+    let g = granted-count (start .args .tag .now) (called .count-entries .result)
+    (called .count-entries .ensures) n (cc) in
     read-granted _ _ _ (g .verdict) (omega arith) (c .before .before .fill .ensures)
 
 pub read-curv-spec : {M : Type 1} → statement M

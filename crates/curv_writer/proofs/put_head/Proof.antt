@@ -18,7 +18,8 @@ returns c =
     let second = c .before .before in
     let first = second .before .before .before .before in
     let start = first .before .before .before in
-    rw (second .put-u32 .ensures, first .put-opening .ensures) (head-stored (start .args .out .now) (start .args .n) (start .pre))
+    rw (second .put-u32 .ensures, first .put-opening .ensures)
+    (head-stored (start .args .out .now) (start .args .n) (start .pre))
 
 pub put-head-spec : {M : Type 1} → statement M
 put-head-spec = tie.close (tie.spec put-opening-requires put-u32-requires same-length returns)

@@ -1,4 +1,5 @@
--- `write_curv` meets its contract: the two tests in turn, then the first twelve bytes and the entries' after them. Assumes nothing.
+-- `write_curv` meets its contract: the two tests in turn, then the first twelve bytes and the entries' after them.
+-- Assumes nothing.
 use mathlib.Core.Path.{_∙_, ap}
 use mathlib.Core.List.{List, _++_}
 use Prim.Native.Nat.{ℕ}
@@ -36,7 +37,8 @@ returns-3 c =
     let head = entries .before .before .before .before in
     let start = head .before .before .before .before .before .before .before in
     write-granted (start .args .table .now) _ _ (omega arith) (omega arith)
-    (entries .put-entries .ensures ∙ ap (λ (l : List ℕ). l ++ bytesOf (start .args .table .now)) (head .put-head .ensures))
+    (entries .put-entries .ensures
+    ∙ ap (λ (l : List ℕ). l ++ bytesOf (start .args .table .now)) (head .put-head .ensures))
 
 pub write-curv-spec : {M : Type 1} → statement M
 write-curv-spec =

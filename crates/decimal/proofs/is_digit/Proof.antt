@@ -1,4 +1,5 @@
--- `is_digit` meets its contract: the first comparison settles a byte below, and past it the second decides. Assumes nothing.
+-- `is_digit` meets its contract: the first comparison settles a byte below, and past it the second decides. Assumes
+-- nothing.
 use borrow.Author.Tests.{lt-ltb, le-ltb}
 use Rattle.decimal.proofs.is_digit.Statement.{statement}
 use Rattle.decimal.proofs.is_digit.Tie as tie

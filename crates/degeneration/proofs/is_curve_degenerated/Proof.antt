@@ -1,4 +1,5 @@
--- `is_curve_degenerated` meets its contract: the promise at each way out, by the tests that lead there. Assumes nothing.
+-- `is_curve_degenerated` meets its contract: the promise at each way out, by the tests that lead there. Assumes
+-- nothing.
 use mathlib.Core.Path.{_∙_, sym}
 use mathlib.Core.Bool.{true, false}
 use borrow.Author.Needs.{needs}
@@ -19,12 +20,14 @@ stands-still-requires c κs = search needs
 returns-2 : tie.Need-returns-2
 returns-2 c =
     let s = c .before in
-    degenerated-judged _ (holds (s .before .before .not-above .ensures) (s .before .if1 .left)) true (sym (s .stands-still .ensures) ∙ c .if2 .taken)
+    degenerated-judged _ (holds (s .before .before .not-above .ensures) (s .before .if1 .left)) true
+    (sym (s .stands-still .ensures) ∙ c .if2 .taken)
 
 returns-3 : tie.Need-returns-3
 returns-3 c =
     let s = c .before in
-    degenerated-judged _ (holds (s .before .before .not-above .ensures) (s .before .if1 .left)) false (sym (s .stands-still .ensures) ∙ c .if2 .left)
+    degenerated-judged _ (holds (s .before .before .not-above .ensures) (s .before .if1 .left)) false
+    (sym (s .stands-still .ensures) ∙ c .if2 .left)
 
 pub is-curve-degenerated-spec : {M : Type 1} → statement M
 is-curve-degenerated-spec =

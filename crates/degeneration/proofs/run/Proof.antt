@@ -1,4 +1,4 @@
--- `run` meets its contract. The invariant: the entries passed are all in the run. Assumes nothing.
+-- `run` meets its contract. The invariant: all entries passed so far are in the run. Assumes nothing.
 use mathlib.Core.Path.{_∙_, sym}
 use Prim.Native.Nat.{_-_}
 use native.Mathlib.Omega.{arith}
@@ -36,7 +36,8 @@ loop-less c = omega arith
 loop-again : tie.Need-loop-again Inv-loop μ-loop
 loop-again c =
     let l = c .before .before in
-    passed-on _ _ _ _ (l .before .loop .inv) (l .loop-test .taken) (sym (c .before .entry-from2 .ensures) ∙ c .if1 .left)
+    passed-on _ _ _ _ (l .before .loop .inv) (l .loop-test .taken)
+    (sym (c .before .entry-from2 .ensures) ∙ c .if1 .left)
 
 returns-2 : tie.Need-returns-2 Inv-loop μ-loop
 returns-2 c = passed-end _ _ _ _ (c .before .loop .inv) (c .loop-test .left)

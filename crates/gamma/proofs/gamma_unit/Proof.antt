@@ -20,7 +20,12 @@ div-result c = search needs
 
 returns : tie.Need-returns
 unfolding gammaUnit
-returns c = rw (c .max-colors .ensures .0) (refl, unit-low _ _ (c .before .pre .2) (c .before .pre .3), unit-high _ _ (c .before .pre .2) (c .before .pre .3) (c .before .pre .1))
+returns c =
+    rw (c .max-colors .ensures .0) (
+      refl,
+      unit-low _ _ (c .before .pre .2) (c .before .pre .3),
+      unit-high _ _ (c .before .pre .2) (c .before .pre .3) (c .before .pre .1),
+    )
 
 pub gamma-unit-spec : {M : Type 1} → statement M
 gamma-unit-spec =

@@ -19,7 +19,12 @@ sub-result : tie.Need-sub-result
 sub-result c = rw (shifted c) (omega (arith, power-low (c .args .depth) (c .pre .0)))
 
 returns : tie.Need-returns
-returns c = rw (shifted c) (refl, omega (arith, power-low (c .args .depth) (c .pre .0)), omega (arith, power-high (c .args .depth) (c .pre .1)))
+returns c =
+    rw (shifted c) (
+      refl,
+      omega (arith, power-low (c .args .depth) (c .pre .0)),
+      omega (arith, power-high (c .args .depth) (c .pre .1)),
+    )
 
 pub max-colors-spec : {M : Type 1} → statement M
 max-colors-spec = tie.close (tie.spec shl-result sub-result returns)

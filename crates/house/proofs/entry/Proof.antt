@@ -1,4 +1,5 @@
--- `entry` meets its contract: an index above 1,023 is refused, and at any other stands the curve's entry. Assumes nothing.
+-- `entry` meets its contract: an index above 1,023 is refused, and at any other stands the curve's entry. Assumes
+-- nothing.
 use borrow.Author.Needs.{needs}
 use native.Mathlib.Omega.{arith}
 use Rattle.house.proofs.Promises.{entry-beyond, entry-given}

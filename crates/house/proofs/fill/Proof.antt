@@ -1,4 +1,5 @@
--- `fill` meets its contract: a buffer of another length is refused and left as it was, and one of 1,024 entries is filled. Assumes nothing.
+-- `fill` meets its contract: a buffer of another length is refused and left as it was, and one of 1,024 entries is
+-- filled. Assumes nothing.
 use mathlib.Core.Path.{refl}
 use borrow.Author.Needs.{needs}
 use Rattle.house.proofs.Promises.{fill-refused, fill-done}

@@ -1,4 +1,5 @@
--- `interp_float` meets its contract: the place lies between two entries, and the steps are those that are defined. Assumes nothing.
+-- `interp_float` meets its contract: the place lies between two entries, and the steps are those that are defined.
+-- Assumes nothing.
 use borrow.Author.Needs.{needs}
 use lib.ListN.{length}
 use denote.Ref.{now}
@@ -17,7 +18,8 @@ sub-value : tie.Need-sub-value
 sub-value c = some (length (now (c .before .before .args .table))) (c .before .before .pre)
 
 int-to-float-value : tie.Need-int-to-float-value
-int-to-float-value c = last-exact (length (now (c .before .before .before .args .table))) (c .before .before .before .pre) binary32
+int-to-float-value c =
+    last-exact (length (now (c .before .before .before .args .table))) (c .before .before .before .pre) binary32
 
 ceil-f32-requires : tie.Need-ceil-f32-requires
 ceil-f32-requires c κs =
@@ -36,7 +38,8 @@ floor-f32-requires c κs =
     place-asks n (s .pre) binary32 y (read-upto (s .args .x) y (u .unit .ensures))
 
 int-to-float-diff : tie.Need-int-to-float-diff
-int-to-float-diff c = in-float binary32 (c .before .before .ceil-f32 .result) (c .before .before .ceil-f32 .ensures .small)
+int-to-float-diff c =
+    in-float binary32 (c .before .before .ceil-f32 .result) (c .before .before .ceil-f32 .ensures .small)
 
 mul-tu : tie.Need-mul-tu
 mul-tu c = search needs
@@ -68,7 +71,10 @@ returns c =
     let h = l .before in
     let u = h .before .before in
     let s = u .before .before in
-    float-gives (now (s .args .table)) (s .args .x) (u .unit .result) (u .unit .ensures) (h .ceil-f32 .result) (l .floor-f32 .result) (h .ceil-f32 .ensures) (l .floor-f32 .ensures)
+    float-gives (now (s .args .table)) (s .args .x) (u .unit .result) (u .unit .ensures) (h .ceil-f32 .result)
+    (l .floor-f32 .result) (h .ceil-f32 .ensures) (l .floor-f32 .ensures)
 
 pub interp-float-spec : {M : Type 1} → statement M
-interp-float-spec = tie.close (tie.spec unit-requires sub-value int-to-float-value ceil-f32-requires floor-f32-requires int-to-float-diff mul-tu shared-slice-read-tu mul-result shared-slice-read-result returns)
+interp-float-spec =
+    tie.close (tie.spec unit-requires sub-value int-to-float-value ceil-f32-requires floor-f32-requires
+    int-to-float-diff mul-tu shared-slice-read-tu mul-result shared-slice-read-result returns)

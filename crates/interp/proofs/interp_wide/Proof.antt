@@ -1,4 +1,5 @@
--- `interp_wide` meets its contract: the place lies between two entries, and the steps are those that are defined. Assumes nothing.
+-- `interp_wide` meets its contract: the place lies between two entries, and the steps are those that are defined.
+-- Assumes nothing.
 use borrow.Author.Needs.{needs}
 use lib.ListN.{length}
 use denote.Ref.{now}
@@ -33,7 +34,8 @@ shared-slice-read-w0 : tie.Need-shared-slice-read-w0
 shared-slice-read-w0 c =
     let h = c .before .before in
     let s = h .before .before .before in
-    upper-inside (length (now (s .args .table))) (s .pre .0) binary64 (s .args .x) (inside-upto (s .args .x) (s .pre .1)) (h .ceil-f64 .result) (h .ceil-f64 .ensures)
+    upper-inside (length (now (s .args .table))) (s .pre .0) binary64 (s .args .x)
+    (inside-upto (s .args .x) (s .pre .1)) (h .ceil-f64 .result) (h .ceil-f64 .ensures)
 
 int-to-float-w0 : tie.Need-int-to-float-w0
 int-to-float-w0 c = search needs
@@ -50,7 +52,8 @@ shared-slice-read-w2 : tie.Need-shared-slice-read-w2
 shared-slice-read-w2 c =
     let l = c .before .before .before .before in
     let s = l .before .before .before .before in
-    lower-inside (length (now (s .args .table))) (s .pre .0) binary64 (s .args .x) (inside-upto (s .args .x) (s .pre .1)) (l .floor-f64 .result) (l .floor-f64 .ensures)
+    lower-inside (length (now (s .args .table))) (s .pre .0) binary64 (s .args .x)
+    (inside-upto (s .args .x) (s .pre .1)) (l .floor-f64 .result) (l .floor-f64 .ensures)
 
 int-to-float-w2 : tie.Need-int-to-float-w2
 int-to-float-w2 c = search needs
@@ -65,7 +68,10 @@ returns c =
     let l = c .before .before .before .before .before .before in
     let h = l .before in
     let s = h .before .before .before in
-    wide-gives (now (s .args .table)) (s .args .x) (h .ceil-f64 .result) (l .floor-f64 .result) (h .ceil-f64 .ensures) (l .floor-f64 .ensures)
+    wide-gives (now (s .args .table)) (s .args .x) (h .ceil-f64 .result) (l .floor-f64 .result) (h .ceil-f64 .ensures)
+    (l .floor-f64 .ensures)
 
 pub interp-wide-spec : {M : Type 1} → statement M
-interp-wide-spec = tie.close (tie.spec sub-value int-to-float-value ceil-f64-requires floor-f64-requires mul-w0 shared-slice-read-w0 int-to-float-w0 int-to-float-w1 mul-w2 shared-slice-read-w2 int-to-float-w2 int-to-float-w3 returns)
+interp-wide-spec =
+    tie.close (tie.spec sub-value int-to-float-value ceil-f64-requires floor-f64-requires mul-w0 shared-slice-read-w0
+    int-to-float-w0 int-to-float-w1 mul-w2 shared-slice-read-w2 int-to-float-w2 int-to-float-w3 returns)

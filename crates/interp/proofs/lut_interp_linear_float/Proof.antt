@@ -1,4 +1,5 @@
--- `lut_interp_linear_float` meets its promise: refused for the length, or the lookup with its exact ends. Assumes nothing.
+-- `lut_interp_linear_float` meets its promise: refused for the length, or the lookup with its exact ends. Assumes
+-- nothing.
 use borrow.Author.Needs.{needs}
 use mathlib.Core.Path.{sym, subst}
 use lib.Dec.{T}
@@ -23,7 +24,9 @@ returns-2 : tie.Need-returns-2
 returns-2 c =
     let k = c .before .before .before in
     let s = k .before in
-    float-granted (now (s .args .table)) (s .args .x) (c .interp-float .result) (holds (c .before .before .sized .ensures) (c .before .if1 .left)) (k .shared-slice-known .given) (subst T (sym (s .good .1 .0 .1)) tt) (c .interp-float .ensures)
+    float-granted (now (s .args .table)) (s .args .x) (c .interp-float .result)
+    (holds (c .before .before .sized .ensures) (c .before .if1 .left)) (k .shared-slice-known .given)
+    (subst T (sym (s .good .1 .0 .1)) tt) (c .interp-float .ensures)
 
 pub lut-interp-linear-float-spec : {M : Type 1} → statement M
 lut-interp-linear-float-spec = tie.close (tie.spec sized-requires returns interp-float-requires returns-2)

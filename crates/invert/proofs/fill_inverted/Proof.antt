@@ -1,4 +1,5 @@
--- `fill_inverted` meets its contract. The invariant: the output is filled with the inverted table so far, and holds after that what it held. Assumes nothing.
+-- `fill_inverted` meets its contract. The invariant: the output holds the inverted table up to i, and from there on
+-- what it held. Assumes nothing.
 use mathlib.Core.Path.{_∙_, refl, ap}
 use Prim.Native.Nat.{_-_, _≤_, _<_}
 use native.Mathlib.Omega.{arith}
@@ -27,7 +28,8 @@ two c = within-low 2 65536 _ (c .pre .1)
 most : (c : tie.Start Inv-loop μ-loop) → length (now (c .args .out)) ≤ 65536
 most c = within-high 2 65536 _ (c .pre .1)
 
-inside : (c : tie.In-loop Inv-loop μ-loop) → c .before .loop .i < length (now (c .before .before .before .before .before .before .args .out))
+inside : (c : tie.In-loop Inv-loop μ-loop)
+    → c .before .loop .i < length (now (c .before .before .before .before .before .before .args .out))
 inside c = omega arith
 
 ends-of-requires : tie.Need-ends-of-requires Inv-loop μ-loop
@@ -60,7 +62,11 @@ cast-input : tie.Need-cast-input Inv-loop μ-loop
 cast-input c =
     let l = c .before .before in
     let s = l .before .before .before .before .before .before in
-    omega (arith, question-small (length (now (s .args .out))) (l .before .loop .i) (two s) (most s) (inside l) (c .floor-f64 .ensures))
+    omega (
+      arith,
+      question-small (length (now (s .args .out))) (l .before .loop .i) (two s) (most s) (inside l)
+          (c .floor-f64 .ensures),
+    )
 
 inverse-requires : tie.Need-inverse-requires Inv-loop μ-loop
 inverse-requires c κs =
@@ -83,7 +89,8 @@ loop-again : tie.Need-loop-again Inv-loop μ-loop
 loop-again c =
     let l = c .before .before .before in
     let s = l .before .before .before .before .before .before in
-    let e = question-asked (length (now (s .args .out))) (l .before .loop .i) (two s) (most s) (inside l) (c .before .floor-f64 .ensures) in
+    let e = question-asked (length (now (s .args .out))) (l .before .loop .i) (two s) (most s) (inside l)
+    (c .before .floor-f64 .ensures) in
     filling-more _ (l .before .loop .inv) (inside l) (c .inverse .ensures ∙ ap (inverted (now (s .args .table))) e)
 
 same-length : tie.Need-same-length Inv-loop μ-loop

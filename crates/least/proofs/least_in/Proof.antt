@@ -1,4 +1,5 @@
--- `least_in` meets its promise: past the tests of the table the last entry decides, and then the search. Assumes nothing.
+-- `least_in` meets its promise: past the tests of the table the last entry decides, and then the search. Assumes
+-- nothing.
 use Prim.Native.Nat.{_≤_, _<_}
 use native.Mathlib.Omega.{arith}
 use borrow.Author.Needs.{needs}

@@ -1,4 +1,5 @@
--- `fill_least_row` meets its contract: the loop fills the output with the row's position of each value. Assumes nothing.
+-- `fill_least_row` meets its contract: the loop fills the output with the row's position of each value. Assumes
+-- nothing.
 use Prim.Native.Nat.{_-_}
 use native.Mathlib.Omega.{arith}
 use borrow.Author.Needs.{needs}
@@ -52,7 +53,8 @@ same-length : tie.Need-same-length Inv-loop μ-loop
 same-length c = c .before .loop .inv .size
 
 returns : tie.Need-returns Inv-loop μ-loop
-returns c = filling-done _ (c .before .loop .inv) (c .before .before .before .before .before .pre .1) (c .loop-test .left)
+returns c =
+    filling-done _ (c .before .loop .inv) (c .before .before .before .before .before .pre .1) (c .loop-test .left)
 
 pub fill-least-row-spec : {M : Type 1} → statement M
 fill-least-row-spec =

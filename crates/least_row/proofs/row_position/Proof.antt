@@ -1,4 +1,5 @@
--- `row_position` meets its contract: past the tests of the table only the last entry decides whether there is a least input. Assumes nothing.
+-- `row_position` meets its contract: past the tests of the table only the last entry decides whether there is a least
+-- input. Assumes nothing.
 use Prim.Native.Nat.{_≤_, _<_}
 use native.Mathlib.Omega.{arith}
 use borrow.Author.Needs.{needs}

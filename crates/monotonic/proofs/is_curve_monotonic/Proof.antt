@@ -24,19 +24,25 @@ violations-requires c κs = search needs
 few-enough-requires : tie.Need-few-enough-requires
 few-enough-requires c κs =
     let s = c .before .before .before .before in
-    omega
-    (arith, leb-true (length (now (s .args .table))) 65536 (holds (c .before .before .not-above .ensures) (c .before .if1 .left)), violations-few (s .args .direction) (now (s .args .table)))
+    omega (
+      arith,
+      leb-true (length (now (s .args .table))) 65536 (holds (c .before .before .not-above .ensures)
+          (c .before .if1 .left)),
+      violations-few (s .args .direction) (now (s .args .table)),
+    )
 
 returns-2 : tie.Need-returns-2
 returns-2 c =
     let v = c .before .before in
-    monotonic-judged _ _ (holds (v .before .before .not-above .ensures) (v .before .if1 .left)) _ (v .violations .ensures) true
+    monotonic-judged _ _ (holds (v .before .before .not-above .ensures) (v .before .if1 .left)) _
+    (v .violations .ensures) true
     (sym (c .before .few-enough .ensures) ∙ c .if2 .taken)
 
 returns-3 : tie.Need-returns-3
 returns-3 c =
     let v = c .before .before in
-    monotonic-judged _ _ (holds (v .before .before .not-above .ensures) (v .before .if1 .left)) _ (v .violations .ensures) false
+    monotonic-judged _ _ (holds (v .before .before .not-above .ensures) (v .before .if1 .left)) _
+    (v .violations .ensures) false
     (sym (c .before .few-enough .ensures) ∙ c .if2 .left)
 
 pub is-curve-monotonic-spec : {M : Type 1} → statement M

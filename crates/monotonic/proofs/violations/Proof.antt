@@ -1,5 +1,5 @@
--- `violations` meets its contract. The invariant: the count has the violations among the entries passed, and with those to come it is the table's.
--- Assumes nothing.
+-- `violations` meets its contract. The invariant: the count so far and the violations still to come add up to the
+-- table's. Assumes nothing.
 use Prim.Native.Nat.{_-_}
 use native.Mathlib.Omega.{arith}
 use borrow.Author.Needs.{needs}

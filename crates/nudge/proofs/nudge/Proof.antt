@@ -16,7 +16,10 @@ size-ok : (c : tie.Else1) → sized (length (now (c .before .before .before .arg
 size-ok c = holds (c .before .sized .ensures) (c .if1 .left)
 
 -- the first three rungs, once they are passed
-passed : (c : tie.Else3) → let a = c .before .before .before .before .before .before .before .args in (sized (length (now (a .table))) ≡ true) × (ltb (a .i) (length (now (a .table))) ≡ true) × (nondecreasing (now (a .table)) ≡ true)
+passed : (c : tie.Else3)
+    → let a = c .before .before .before .before .before .before .before .args in
+    (sized (length (now (a .table))) ≡ true)
+    × (ltb (a .i) (length (now (a .table))) ≡ true) × (nondecreasing (now (a .table)) ≡ true)
 passed c =
     let e = c .before .before .before in
     (size-ok (e .before), lt-ltb _ _ (e .if2 .left), holds (c .before .in-order .ensures) (c .if3 .left))

@@ -23,7 +23,8 @@ signed-of-requires c κs = search needs
 returns : tie.Need-returns
 unfolding rawAt
 returns c =
-    held (c .signed-of .ok) (c .signed-of .ensures ∙ ap signedOf (c .before .u32-at .ensures) ∙ simp (lt-ltb _ _ (c .before .before .if1 .taken)))
+    held (c .signed-of .ok) (c .signed-of .ensures ∙ ap signedOf (c .before .u32-at .ensures)
+    ∙ simp (lt-ltb _ _ (c .before .before .if1 .taken)))
 
 returns-2 : tie.Need-returns-2
 returns-2 c = simp (le-ltb _ _ (c .if1 .left))

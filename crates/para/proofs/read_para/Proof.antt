@@ -1,4 +1,5 @@
--- `read_para` meets its contract: each answer is that of the first test that fails, past those that hold. Assumes nothing.
+-- `read_para` meets its contract: each answer is that of the first test that fails, past those that hold. Assumes
+-- nothing.
 use native.Mathlib.Omega.{arith}
 use Rattle.para.proofs.Checks.{short, unsigned, unreserved, unreserved-after, untyped, unwhole, right}
 use Rattle.para.proofs.Promises.{read-refused, read-granted}

@@ -1,4 +1,5 @@
--- `curve_from` meets its contract: the float of the number at each of the seven places, and the curve of the first n. Assumes nothing.
+-- `curve_from` meets its contract: the float of the number at each of the seven places, and the curve of the first n.
+-- Assumes nothing.
 use mathlib.Core.Path.{sym, subst}
 use mathlib.Core.List.{List}
 use native.Mathlib.Omega.{arith}

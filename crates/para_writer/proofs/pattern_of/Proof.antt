@@ -1,4 +1,5 @@
--- `pattern_of` meets its contract: a number from 0 up is its own pattern, and one below 0 the complement of its complement's. Assumes nothing.
+-- `pattern_of` meets its contract: a number from 0 up is its own pattern, and one below 0 the complement of its
+-- complement's. Assumes nothing.
 use Rattle.para_writer.proofs.Complement.{above-casts, above-pattern, below-casts, below-pattern}
 use Rattle.para_writer.proofs.pattern_of.Statement.{statement}
 use Rattle.para_writer.proofs.pattern_of.Tie as tie

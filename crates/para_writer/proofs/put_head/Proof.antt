@@ -22,7 +22,8 @@ returns c =
     let second = third .before .before .before .before in
     let first = second .before .before .before .before in
     let start = first .before .before .before in
-    rw (third .put-u162 .ensures, second .put-u16 .ensures, first .put-opening .ensures) (head-stored (start .args .out .now) (start .args .t) (start .pre))
+    rw (third .put-u162 .ensures, second .put-u16 .ensures, first .put-opening .ensures)
+    (head-stored (start .args .out .now) (start .args .t) (start .pre))
 
 pub put-head-spec : {M : Type 1} → statement M
 put-head-spec =

@@ -1,4 +1,5 @@
--- `put_numbers` meets its contract: the pattern of the number at each of the seven places, and the first n of them stored. Assumes nothing.
+-- `put_numbers` meets its contract: the pattern of the number at each of the seven places, and the first n of them
+-- stored. Assumes nothing.
 use Rattle.para.specs.Tag.{tagLength}
 use mathlib.Core.Path.{_∙_, sym, ap}
 use mathlib.Core.List.{List, _++_}
@@ -44,7 +45,8 @@ slice-aggregate-put-patterns c = sym (length-take-le _ _ (omega arith))
 
 put-patterns-requires : tie.Need-put-patterns-requires
 put-patterns-requires c κs =
-    let start = c .before .before .before .before .before .before .before .before .before .before .before .before .before .before .before .before .before in
+    let start = c .before .before .before .before .before .before .before .before .before .before .before .before
+    .before .before .before .before .before in
     start .pre .1 ∙ ap tagLength (sym (length-take-le _ _ (start .pre .0)))
 
 same-length : tie.Need-same-length

@@ -40,7 +40,8 @@ loop-less c = search needs
 loop-again : tie.Need-loop-again Inv-loop μ-loop
 loop-again c =
     let at = c .before .before .before .before .before .before in
-    storing-more four-bytes (at .loop .inv) (at .before .before .before .pre) (omega arith) (c .before .before .put-u32 .ensures)
+    storing-more four-bytes (at .loop .inv) (at .before .before .before .pre) (omega arith)
+    (c .before .before .put-u32 .ensures)
 
 same-length : tie.Need-same-length Inv-loop μ-loop
 same-length c = search needs

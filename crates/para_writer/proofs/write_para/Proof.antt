@@ -1,4 +1,5 @@
--- `write_para` meets its contract: the two tests in turn, then the first twelve bytes and the numbers' after them. Assumes nothing.
+-- `write_para` meets its contract: the two tests in turn, then the first twelve bytes and the numbers' after them.
+-- Assumes nothing.
 use native.Mathlib.Omega.{arith}
 use Rattle.para_writer.proofs.Promises.{write-untyped, write-misfit, write-done}
 use borrow.Author.Needs.{needs}
@@ -34,7 +35,8 @@ returns-3 c =
     let numbers = c .before .before in
     let head = numbers .before .before .before .before in
     let counted = head .before .before .before .before in
-    write-done _ _ _ (omega arith) (counted .count-of .ensures .0) (omega arith) (head .put-head .ensures) (numbers .put-numbers .ensures)
+    write-done _ _ _ (omega arith) (counted .count-of .ensures .0) (omega arith) (head .put-head .ensures)
+    (numbers .put-numbers .ensures)
 
 pub write-para-spec : {M : Type 1} → statement M
 write-para-spec =

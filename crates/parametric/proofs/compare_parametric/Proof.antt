@@ -1,4 +1,5 @@
--- `compare_parametric` meets its promise. The invariant: what is left to compare is as close as the whole. Assumes nothing.
+-- `compare_parametric` meets its promise. The invariant: what is left to compare is close exactly if the whole is.
+-- Assumes nothing.
 use mathlib.Core.Path.{_≡_, _∙_, refl, sym}
 use Prim.Native.Nat.{_≤_, _<_, _-_, min}
 use native.Mathlib.Omega.{arith}
@@ -11,7 +12,8 @@ use Rattle.parametric.proofs.compare_parametric.Statement.{statement}
 use Rattle.parametric.proofs.compare_parametric.Tie as tie
 
 abbrev Inv-loop : tie.InvT-loop
-Inv-loop src dst n i₀ i = (i ≤ n) × (n ≡ min (length src) (length dst)) × (close (drop i src) (drop i dst) ≡ close src dst)
+Inv-loop src dst n i₀ i =
+    (i ≤ n) × (n ≡ min (length src) (length dst)) × (close (drop i src) (drop i dst) ≡ close src dst)
 
 abbrev μ-loop : tie.MeasureT-loop
 μ-loop src dst n i₀ i = n - i
@@ -44,7 +46,10 @@ returns c =
     let d = now (l .before .before .before .before .args .dst) in
     let a : l .loop .i < length s = omega arith in
     let b : l .loop .i < length d = omega arith in
-    record { value = sym (walk-stop s d (l .loop .i) a b (sym (c .before .too-far .ensures) ∙ c .if1 .taken)) ∙ l .loop .inv .2 }
+    record {
+      value = sym (walk-stop s d (l .loop .i) a b (sym (c .before .too-far .ensures) ∙ c .if1 .taken))
+          ∙ l .loop .inv .2;
+    }
 
 add-i : tie.Need-add-i Inv-loop μ-loop
 add-i c = omega arith
@@ -58,8 +63,11 @@ loop-again c =
     let s = now (l .before .before .before .before .args .src) in
     let d = now (l .before .before .before .before .args .dst) in
     let a : l .loop .i < length s = omega arith in
-    let b : l .loop .i < length d = omega arith in
-    (omega arith, l .loop .inv .1, sym (walk-on s d (l .loop .i) a b (sym (c .before .too-far .ensures) ∙ c .if1 .left)) ∙ l .loop .inv .2)
+    let b : l .loop .i < length d = omega arith in (
+      omega arith,
+      l .loop .inv .1,
+      sym (walk-on s d (l .loop .i) a b (sym (c .before .too-far .ensures) ∙ c .if1 .left)) ∙ l .loop .inv .2,
+    )
 
 returns-2 : tie.Need-returns-2 Inv-loop μ-loop
 returns-2 c =

@@ -1,11 +1,13 @@
--- `of_params` meets its contract: a count that is none of the smaller ones is large enough for the next reads. Assumes nothing.
+-- `of_params` meets its contract: a count that is none of the smaller ones is large enough for the reads that follow.
+-- Assumes nothing.
 use mathlib.Core.Path.{_≡_, refl}
 use Prim.Native.Nat.{_≤_}
 use native.Mathlib.Omega.{arith}
 use borrow.Author.Needs.{needs}
 use lib.ListN.{length}
 use denote.Ref.{now}
-use Rattle.parametric.proofs.Unify.{one-makes, three-make, four-make, five-make, seven-make, first-one, then-three, then-four, then-five, then-seven}
+use Rattle.parametric.proofs.Unify.{one-makes, three-make, four-make, five-make, seven-make, first-one}
+use Rattle.parametric.proofs.Unify.{then-three, then-four, then-five, then-seven}
 use Rattle.parametric.proofs.of_params.Statement.{statement}
 use Rattle.parametric.proofs.of_params.Tie as tie
 
@@ -17,13 +19,15 @@ four c =
     let e = c .before .before .before in
     then-four _ (e .before .before .before .pre) (e .if1 .left) (c .if2 .left)
 
-five : (c : tie.Else3) → 5 ≤ length (now (c .before .before .before .before .before .before .before .before .args .params))
+five : (c : tie.Else3)
+    → 5 ≤ length (now (c .before .before .before .before .before .before .before .before .args .params))
 five c =
     let f = c .before .before in
     let e = f .before .before .before in
     then-five _ (e .before .before .before .pre) (e .if1 .left) (f .if2 .left) (c .if3 .left)
 
-seven : (c : tie.Else4) → length (now (c .before .before .before .before .before .before .before .before .before .before .args .params)) ≡ 7
+seven : (c : tie.Else4)
+    → length (now (c .before .before .before .before .before .before .before .before .before .before .args .params)) ≡ 7
 seven c =
     let g = c .before .before in
     let f = g .before .before in

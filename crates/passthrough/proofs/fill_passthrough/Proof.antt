@@ -1,4 +1,5 @@
--- `fill_passthrough` meets its contract. The invariant: the output is filled with the rule's entries so far, and holds after that what it held. Assumes nothing.
+-- `fill_passthrough` meets its contract. The invariant: the output holds the rule's entries up to i, and from there on
+-- what it held. Assumes nothing.
 use mathlib.Core.Path.{refl}
 use Prim.Native.Nat.{_-_}
 use native.Mathlib.Omega.{arith}
@@ -31,7 +32,8 @@ loop-holds c = filling-start _ _
 int-to-float-nearest-f64-to-f32 : tie.Need-int-to-float-nearest-f64-to-f32 Inv-loop μ-loop
 int-to-float-nearest-f64-to-f32 c =
     let l = c .before .before in
-    in-float binary64 (l .loop .i) (omega (arith, l .loop .inv .size, within-high 2 65536 _ (l .before .before .before .pre)))
+    in-float binary64 (l .loop .i)
+    (omega (arith, l .loop .inv .size, within-high 2 65536 _ (l .before .before .before .pre)))
 
 nearest-f64-to-f32-requires : tie.Need-nearest-f64-to-f32-requires Inv-loop μ-loop
 nearest-f64-to-f32-requires c κs = tt
@@ -52,7 +54,8 @@ loop-again : tie.Need-loop-again Inv-loop μ-loop
 loop-again c =
     let l = c .before .before .before in
     let n = length (now (l .before .before .before .args .output)) in
-    filling-more _ (l .loop .inv) (omega arith) (passed-gives n (l .loop .i) (c .nearest-f64-to-f32 .result) (c .nearest-f64-to-f32 .ensures))
+    filling-more _ (l .loop .inv) (omega arith)
+    (passed-gives n (l .loop .i) (c .nearest-f64-to-f32 .result) (c .nearest-f64-to-f32 .ensures))
 
 same-length : tie.Need-same-length Inv-loop μ-loop
 same-length c = c .before .loop .inv .size
@@ -61,4 +64,7 @@ returns : tie.Need-returns Inv-loop μ-loop
 returns c = filling-done _ (c .before .loop .inv) refl (omega arith)
 
 pub fill-passthrough-spec : {M : Type 1} → statement M
-fill-passthrough-spec = tie.close (tie.spec Inv-loop μ-loop sub-scale-value int-to-float-scale-value loop-holds int-to-float-nearest-f64-to-f32 nearest-f64-to-f32-requires mul-output slice-write-output add-i loop-less loop-again same-length returns)
+fill-passthrough-spec =
+    tie.close (tie.spec Inv-loop μ-loop sub-scale-value int-to-float-scale-value loop-holds
+    int-to-float-nearest-f64-to-f32 nearest-f64-to-f32-requires mul-output slice-write-output add-i loop-less loop-again
+    same-length returns)

@@ -1,4 +1,4 @@
--- `double_of` meets its contract: the test lets no NaN's pattern past, and what it keeps back is one. Assumes nothing.
+-- `double_of` meets its contract: the test stops exactly the patterns of NaNs. Assumes nothing.
 use mathlib.Core.Path.{_∙_, refl, sym, subst}
 use mathlib.Core.Bool.{Bool, not}
 use Prim.Native.Nat.{_%_}
@@ -16,7 +16,8 @@ returns c = bits-nan binary64 ∙ sym (nan-pattern binary64 (c .before .args .bi
 float-from-bits-result : tie.Need-float-from-bits-result
 float-from-bits-result c =
     let b = c .before .args .bits in
-    subst (λ (t : Bool). T (not t)) (sym (nanBits-above binary64 b)) (le→nltb 9218868437227405312 (b % 9223372036854775808) (c .if1 .left))
+    subst (λ (t : Bool). T (not t)) (sym (nanBits-above binary64 b))
+    (le→nltb 9218868437227405312 (b % 9223372036854775808) (c .if1 .left))
 
 returns-2 : tie.Need-returns-2
 returns-2 c = refl

@@ -1,4 +1,4 @@
--- `float_of` meets its contract: the test lets no NaN's pattern past, and what it keeps back is one. Assumes nothing.
+-- `float_of` meets its contract: the test stops exactly the patterns of NaNs. Assumes nothing.
 use mathlib.Core.Path.{_∙_, refl, sym, subst}
 use mathlib.Core.Bool.{Bool, not}
 use Prim.Native.Nat.{_%_}
@@ -16,7 +16,8 @@ returns c = bits-nan binary32 ∙ sym (nan-pattern binary32 (c .before .args .bi
 float-from-bits-result : tie.Need-float-from-bits-result
 float-from-bits-result c =
     let b = c .before .args .bits in
-    subst (λ (t : Bool). T (not t)) (sym (nanBits-above binary32 b)) (le→nltb 2139095040 (b % 2147483648) (c .if1 .left))
+    subst (λ (t : Bool). T (not t)) (sym (nanBits-above binary32 b))
+    (le→nltb 2139095040 (b % 2147483648) (c .if1 .left))
 
 returns-2 : tie.Need-returns-2
 returns-2 c = refl

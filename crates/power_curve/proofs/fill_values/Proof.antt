@@ -1,5 +1,5 @@
--- `fill_values` meets its contract: the loop fills the buffer with the values at the straight curve of its own length.
--- Assumes nothing.
+-- `fill_values` meets its contract: the loop fills the buffer with the values at the entries of the straight curve of
+-- the same length. Assumes nothing.
 use mathlib.Core.Path.{refl, ap, _∙_}
 use Prim.Native.Nat.{_-_}
 use native.Mathlib.Omega.{arith}

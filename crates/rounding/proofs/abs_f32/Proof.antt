@@ -1,4 +1,5 @@
--- `abs_f32` meets its promise: up to 0 the size is 0 - x, a difference that loses nothing; above 0 it is x. Assumes nothing.
+-- `abs_f32` meets its promise: up to 0 the size is 0 - x, a difference that loses nothing; above 0 it is x. Assumes
+-- nothing.
 use mathlib.Core.Path.{sym, subst}
 use lib.Dec.{T}
 use lib.Ieee.{binary32}

@@ -1,4 +1,5 @@
--- `magnitude` meets its contract: each arm is a range of the exponent, and a law of `proofs/Narrow.antt`. Assumes nothing.
+-- `magnitude` meets its contract: each arm is a range of the exponent, and a law of `proofs/Narrow.antt`. Assumes
+-- nothing.
 use borrow.Author.Needs.{needs}
 use native.Mathlib.Omega.{arith}
 use lib.Dec.{lit≤}
@@ -23,12 +24,17 @@ nearest-quotient-requires c κs = search needs
 add-result : tie.Need-add-result
 add-result c =
     let s = c .before .before .before in
-    omega (arith, quotient-le (s .args .digits) 536870912 (c .nearest-quotient .result) (s .pre .1 .0) (lit≤ tt) (c .nearest-quotient .ensures))
+    omega (
+      arith,
+      quotient-le (s .args .digits) 536870912 (c .nearest-quotient .result) (s .pre .1 .0) (lit≤ tt)
+          (c .nearest-quotient .ensures),
+    )
 
 returns-2 : tie.Need-returns-2
 returns-2 c =
     let s = c .before .before .before in
-    normal-gives (s .args .exponent) (s .args .digits) (s .pre .1 .0) (c .nearest-quotient .result) (c .before .if2 .taken) (c .before .before .if1 .left) (c .nearest-quotient .ensures)
+    normal-gives (s .args .exponent) (s .args .digits) (s .pre .1 .0) (c .nearest-quotient .result)
+    (c .before .if2 .taken) (c .before .before .if1 .left) (c .nearest-quotient .ensures)
 
 add-nearest-quotient-2 : tie.Need-add-nearest-quotient-2
 add-nearest-quotient-2 c = search needs
@@ -47,7 +53,8 @@ nearest-quotient-requires-2 c κs =
 returns-3 : tie.Need-returns-3
 returns-3 c =
     let s = c .before .before .before .before in
-    low-gives (s .args .exponent) (s .args .digits) (s .pre .1 .0) (c .nearest-quotient2 .result) (c .before .if3 .taken) (c .before .before .if2 .left) (c .nearest-quotient2 .ensures)
+    low-gives (s .args .exponent) (s .args .digits) (s .pre .1 .0) (c .nearest-quotient2 .result)
+    (c .before .if3 .taken) (c .before .before .if2 .left) (c .nearest-quotient2 .ensures)
 
 returns-4 : tie.Need-returns-4
 returns-4 c =

@@ -1,4 +1,5 @@
--- `nearest_f64_to_f32` meets its promise: the pattern is the sign's bit and what `magnitude` makes of the two fields, which are x's own. Assumes nothing.
+-- `nearest_f64_to_f32` meets its promise: the pattern is the sign's bit and what `magnitude` makes of the two fields,
+-- which are x's own. Assumes nothing.
 use borrow.Author.Needs.{needs}
 use borrow.Author.Tests.{le-leb, lt-leb}
 use mathlib.Core.Path.{sym, subst}
@@ -38,7 +39,8 @@ returns-2 : tie.Need-returns-2
 returns-2 c =
     let e = c .before .before in
     let x = e .before .args .x in
-    narrowed x (held (e .before)) (e .if1 .left) true (c .before .magnitude .result) (le-leb 9223372036854775808 (toBits binary64 x) (c .if2 .taken)) (c .before .magnitude .ensures .1)
+    narrowed x (held (e .before)) (e .if1 .left) true (c .before .magnitude .result)
+    (le-leb 9223372036854775808 (toBits binary64 x) (c .if2 .taken)) (c .before .magnitude .ensures .1)
 
 cast-result-2 : tie.Need-cast-result-2
 cast-result-2 c = search needs
@@ -46,7 +48,8 @@ cast-result-2 c = search needs
 float-from-bits-result-2 : tie.Need-float-from-bits-result-2
 float-from-bits-result-2 c =
     let m = c .before .magnitude .result in
-    subst (λ (z : ℕ). T (not (nanBits binary32 z))) (zero-add m) (no-nan-pattern false m (c .before .magnitude .ensures .0))
+    subst (λ (z : ℕ). T (not (nanBits binary32 z))) (zero-add m)
+    (no-nan-pattern false m (c .before .magnitude .ensures .0))
 
 returns-3 : tie.Need-returns-3
 returns-3 c =
@@ -54,7 +57,8 @@ returns-3 c =
     let x = e .before .args .x in
     let m = c .before .magnitude .result in
     subst (λ (z : ℕ). NarrowPromise x (ofBits binary32 z)) (zero-add m)
-    (narrowed x (held (e .before)) (e .if1 .left) false m (lt-leb 9223372036854775808 (toBits binary64 x) (c .if2 .left)) (c .before .magnitude .ensures .1))
+    (narrowed x (held (e .before)) (e .if1 .left) false m
+    (lt-leb 9223372036854775808 (toBits binary64 x) (c .if2 .left)) (c .before .magnitude .ensures .1))
 
 pub nearest-f64-to-f32-spec : {M : Type 1} → statement M
 nearest-f64-to-f32-spec =

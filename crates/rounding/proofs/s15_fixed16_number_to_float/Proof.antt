@@ -1,4 +1,5 @@
--- `s15_fixed16_number_to_float` meets its promise: x / 65536 is exact in f64, so the f32 is rounded once. Assumes nothing.
+-- `s15_fixed16_number_to_float` meets its promise: x / 65536 is exact in f64, so the f32 is rounded once. Assumes
+-- nothing.
 use borrow.Author.Needs.{needs}
 use mathlib.Core.Path.{subst}
 use lib.IntN.{ℤ}
@@ -20,7 +21,10 @@ returns : tie.Need-returns
 returns c =
     let s = c .before .before in
     let r = c .nearest-f64-to-f32 .result in
-    s15-gives (s .args .x) r (s .fits .x .sfits) (subst (λ (z : ℤ). NarrowPromise (div binary64 (ofInt binary64 z) (ofBits binary64 0x40f0_0000_0000_0000)) r) (toZ-ofZ w32 (s .args .x) (s .fits .x)) (c .nearest-f64-to-f32 .ensures))
+    s15-gives (s .args .x) r (s .fits .x .sfits)
+    (subst (λ (z : ℤ). NarrowPromise (div binary64 (ofInt binary64 z) (ofBits binary64 0x40f0_0000_0000_0000)) r)
+    (toZ-ofZ w32 (s .args .x) (s .fits .x)) (c .nearest-f64-to-f32 .ensures))
 
 pub s15-fixed16-number-to-float-spec : {M : Type 1} → statement M
-s15-fixed16-number-to-float-spec = tie.close (tie.spec int-to-float-nearest-f64-to-f32 nearest-f64-to-f32-requires returns)
+s15-fixed16-number-to-float-spec =
+    tie.close (tie.spec int-to-float-nearest-f64-to-f32 nearest-f64-to-f32-requires returns)

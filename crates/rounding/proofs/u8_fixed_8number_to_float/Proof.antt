@@ -16,4 +16,5 @@ returns c =
     u8-gives (s .args .x) (c .nearest-f64-to-f32 .result) (s .fits .x .fits) (c .nearest-f64-to-f32 .ensures)
 
 pub u8-fixed-8number-to-float-spec : {M : Type 1} → statement M
-u8-fixed-8number-to-float-spec = tie.close (tie.spec int-to-float-nearest-f64-to-f32 nearest-f64-to-f32-requires returns)
+u8-fixed-8number-to-float-spec =
+    tie.close (tie.spec int-to-float-nearest-f64-to-f32 nearest-f64-to-f32-requires returns)

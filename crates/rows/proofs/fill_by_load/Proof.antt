@@ -58,7 +58,8 @@ same-length : tie.Need-same-length Inv-loop μ-loop
 same-length c = c .before .loop .inv .size
 
 returns : tie.Need-returns Inv-loop μ-loop
-returns c = filling-done _ (c .before .loop .inv) (c .before .before .before .before .before .pre .1) (c .loop-test .left)
+returns c =
+    filling-done _ (c .before .loop .inv) (c .before .before .before .before .before .pre .1) (c .loop-test .left)
 
 pub fill-by-load-spec : {M : Type 1} → statement M
 fill-by-load-spec =

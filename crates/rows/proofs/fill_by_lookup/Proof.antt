@@ -1,4 +1,5 @@
--- `fill_by_lookup` meets its contract. The invariant: the output is filled with the row so far, and holds after that what it held. Assumes nothing.
+-- `fill_by_lookup` meets its contract. The invariant: the output holds the row up to i, and from there on what it held.
+-- Assumes nothing.
 use Prim.Native.Nat.{_-_}
 use native.Mathlib.Omega.{arith}
 use borrow.Author.Needs.{needs}
@@ -53,7 +54,8 @@ same-length : tie.Need-same-length Inv-loop μ-loop
 same-length c = c .before .loop .inv .size
 
 returns : tie.Need-returns Inv-loop μ-loop
-returns c = filling-done _ (c .before .loop .inv) (c .before .before .before .before .before .pre .1) (c .loop-test .left)
+returns c =
+    filling-done _ (c .before .loop .inv) (c .before .before .before .before .before .pre .1) (c .loop-test .left)
 
 pub fill-by-lookup-spec : {M : Type 1} → statement M
 fill-by-lookup-spec =

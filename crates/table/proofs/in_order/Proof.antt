@@ -1,5 +1,5 @@
--- `in_order` meets its contract. The invariant: what the test says of the entries that are left, after the one passed last, is what it says of the table.
--- Assumes nothing.
+-- `in_order` meets its contract. The invariant: the entries that are left, after the one passed last, pass the test
+-- exactly if the whole table does. Assumes nothing.
 use mathlib.Core.Path.{_≡_, _∙_, sym}
 use Prim.Native.Nat.{_≤_, _-_}
 use native.Mathlib.Nat.{le-antisymm}
@@ -13,7 +13,8 @@ use Rattle.table.proofs.in_order.Statement.{statement}
 use Rattle.table.proofs.in_order.Tie as tie
 
 abbrev Inv-loop : tie.InvT-loop
-Inv-loop table i₀ before₀ i before = (i ≤ length table) × (nondecreasingFrom before (drop i table) ≡ nondecreasing table)
+Inv-loop table i₀ before₀ i before =
+    (i ≤ length table) × (nondecreasingFrom before (drop i table) ≡ nondecreasing table)
 
 abbrev μ-loop : tie.MeasureT-loop
 μ-loop table i₀ before₀ i before = length table - i

@@ -1,4 +1,5 @@
--- `within` meets its contract: the first comparison settles a number below, and past it the second decides. Assumes nothing.
+-- `within` meets its contract: the first comparison settles a number below, and past it the second decides. Assumes
+-- nothing.
 use mathlib.Core.Path.{sym}
 use Rattle.table.proofs.Sizes.{below-within, within-is}
 use Rattle.table.proofs.within.Statement.{statement}

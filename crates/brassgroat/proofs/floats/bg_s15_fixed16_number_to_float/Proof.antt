@@ -1,4 +1,5 @@
--- `bg_s15_fixed16_number_to_float` meets its contract: a signed number is handed on as its bits, which are those of the same number. Assumes nothing.
+-- `bg_s15_fixed16_number_to_float` meets its contract: the signed number is handed on by its bits, unchanged. Assumes
+-- nothing.
 use mathlib.Core.Path.{subst}
 use lib.IntN.{ℤ}
 use mir.Syntax.{w32}

@@ -1,4 +1,5 @@
--- `bg_is_curve_monotonic` meets its contract: the library judges by the direction that the bool stands for. Assumes nothing.
+-- `bg_is_curve_monotonic` meets its contract: the library judges by the direction that the bool stands for. Assumes
+-- nothing.
 use borrow.Author.Needs.{needs}
 use Rattle.brassgroat.proofs.verdicts.bg_is_curve_monotonic.Statement.{statement}
 use Rattle.brassgroat.proofs.verdicts.bg_is_curve_monotonic.Tie as tie

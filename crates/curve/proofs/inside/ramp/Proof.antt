@@ -1,4 +1,5 @@
--- `ramp` meets its contract: of 2 to 65,536 entries no step wraps, the divisor is not 0, and the entry fits 16 bits. Assumes nothing.
+-- `ramp` meets its contract: of 2 to 65,536 entries no step wraps, the divisor is not 0, and the entry fits 16 bits.
+-- Assumes nothing.
 use mathlib.Core.Path.{refl}
 use native.Mathlib.Omega.{arith}
 use borrow.Author.Needs.{needs}

@@ -6,7 +6,7 @@ use borrow.Author.Needs.{needs}
 use Rattle.icc.proofs.inside.u32_at.Statement.{statement}
 use Rattle.icc.proofs.inside.u32_at.Tie as tie
 
--- The bytes of any tag that a call is lent are eight bits wide, by their type: what the laws on bytes ask for.
+-- The bytes of any tag that a call is lent are eight bits wide, by their type: what the laws on bytes ask for. [icc]
 lent-eight : (c : tie.After-shared-slice-known) → EightBits (c .before .args .tag .now)
 lent-eight c i = omega (arith, c .shared-slice-known .given i)
 
@@ -32,7 +32,12 @@ add-result : tie.Need-add-result
 add-result c = search needs
 
 returns : tie.Need-returns
-returns c = omega (arith, be32-halves (c .before .before .before .before .before .args .tag .now) (c .before .before .before .before .before .args .i))
+returns c =
+    omega (
+      arith,
+      be32-halves (c .before .before .before .before .before .args .tag .now)
+          (c .before .before .before .before .before .args .i),
+    )
 
 pub u32-at-spec : {M : Type 1} → statement M
 u32-at-spec =

@@ -1,4 +1,5 @@
--- `inverse` meets its contract, way by way: before any search, with r ≤ l, at a hit, and by the f64 steps. Assumes nothing.
+-- `inverse` meets its contract on each way to an answer: before any search, with r ≤ l, at a hit, and by the f64 steps.
+-- Assumes nothing.
 use mathlib.Core.Path.{_∙_, refl, sym}
 use native.Mathlib.Omega.{arith}
 use borrow.Author.Needs.{needs}
@@ -35,7 +36,9 @@ first-right-requires c κs =
     omega (arith, tops-le (now (s .args .table)), s .pre .1 .tops, within-high 1 65536 _ (s .pre .0))
 
 -- what the steps before the search gave
-begun : (c : tie.After-first-right) → Begun (now (c .before .before .before .before .before .args .table)) (c .before .before .before .before .before .args .ends .z) (c .before .before .before .before .before .args .ends .w) (c .before .first-left .result) (c .first-right .result)
+begun : (c : tie.After-first-right) → Begun (now (c .before .before .before .before .before .args .table))
+    (c .before .before .before .before .before .args .ends .z)
+    (c .before .before .before .before .before .args .ends .w) (c .before .first-left .result) (c .first-right .result)
 begun c = record {
   zeros = c .before .before .before .before .before .pre .1 .zeros;
   tops = c .before .before .before .before .before .pre .1 .tops;
@@ -46,7 +49,8 @@ begun c = record {
 returns-2 : tie.Need-returns-2
 returns-2 c =
     let e = c .before .before .before in
-    crossed (begun (c .before)) (e .before .before .before .pre .0) _ (e .before .zero-at-once .ensures) (e .if1 .left) (c .if2 .taken)
+    crossed (begun (c .before)) (e .before .before .before .pre .0) _ (e .before .zero-at-once .ensures) (e .if1 .left)
+    (c .if2 .taken)
 
 search-requires : tie.Need-search-requires
 search-requires c κs =
@@ -65,7 +69,8 @@ tail-requires c κs =
     let e = f .before .before .before .before in
     let s = e .before .before .before in (
       s .pre .0,
-      missed-low (begun (f .before .before)) (s .pre .0) (s .args .v) (e .before .zero-at-once .ensures) (e .if1 .left) (c .before .x .given .0 .0) (f .before .if2 .left)
+      missed-low (begun (f .before .before)) (s .pre .0) (s .args .v) (e .before .zero-at-once .ensures) (e .if1 .left)
+          (c .before .x .given .0 .0) (f .before .if2 .left)
           (sym (f .search .ensures) ∙ c .before .x .given .1),
     )
 
@@ -74,7 +79,8 @@ returns-3 c =
     let f = c .before .before .before in
     let e = f .before .before .before .before in
     let s = e .before .before .before in
-    hit-answer (begun (f .before .before)) (s .pre .0) (s .args .v) (e .before .zero-at-once .ensures) (e .if1 .left) (c .before .p .given .0 .0) (f .before .if2 .left)
+    hit-answer (begun (f .before .before)) (s .pre .0) (s .args .v) (e .before .zero-at-once .ensures) (e .if1 .left)
+    (c .before .p .given .0 .0) (f .before .if2 .left)
     (sym (f .search .ensures) ∙ c .before .p .given .1)
 
 returns-4 : tie.Need-returns-4
@@ -84,7 +90,8 @@ returns-4 c =
     let e = f .before .before .before .before in
     let s = e .before .before .before in
     c .tail .ensures
-    ∙ missed-answer (begun (f .before .before)) (s .pre .0) (s .args .v) (e .before .zero-at-once .ensures) (e .if1 .left) (k .before .x .given .0 .0) (f .before .if2 .left)
+    ∙ missed-answer (begun (f .before .before)) (s .pre .0) (s .args .v) (e .before .zero-at-once .ensures)
+    (e .if1 .left) (k .before .x .given .0 .0) (f .before .if2 .left)
     (sym (f .search .ensures) ∙ k .before .x .given .1)
 
 pub inverse-spec : {M : Type 1} → statement M

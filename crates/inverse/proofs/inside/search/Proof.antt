@@ -1,17 +1,19 @@
--- `search` meets its contract. The invariant: what is left between l and r comes to what the whole search does, every x there is a position's, and the
--- one probed last was. Assumes nothing.
+-- `search` meets its contract. The invariant: searching on between l and r gives what the whole search gives; every x
+-- that can be probed there has x - 1 for a position; and the last x probed is at most 65535. Assumes nothing.
 use mathlib.Core.Path.{_≡_, _∙_, sym, subst}
 use Prim.Native.Nat.{ℕ, _≤_, _<_, _-_}
 use native.Mathlib.Omega.{arith}
 use Rattle.table.proofs.Sizes.{within-low, within-high}
 use Rattle.inverse.specs.Inside.{Ready}
 use Rattle.inverse.specs.Inverse.{searched}
-use Rattle.inverse.proofs.Bisection.{from, from-start, from-over, from-hit, from-left, from-right, probe-low, probe-high, ready-left, ready-right}
+use Rattle.inverse.proofs.Bisection.{from, from-start, from-over, from-hit, from-left, from-right, probe-low}
+use Rattle.inverse.proofs.Bisection.{probe-high, ready-left, ready-right}
 use Rattle.inverse.proofs.inside.search.Statement.{statement}
 use Rattle.inverse.proofs.inside.search.Tie as tie
 
 abbrev Inv-loop : tie.InvT-loop
-Inv-loop table v left right top l₀ r₀ x₀ l r x = Ready table v l r × (from table v l r x ≡ searched table v left right) × (x ≤ 65535)
+Inv-loop table v left right top l₀ r₀ x₀ l r x =
+    Ready table v l r × (from table v l r x ≡ searched table v left right) × (x ≤ 65535)
 
 abbrev μ-loop : tie.MeasureT-loop
 μ-loop table v left right top l₀ r₀ x₀ l r x = r - l
@@ -52,8 +54,12 @@ loop-again : tie.Need-loop-again Inv-loop μ-loop
 loop-again c =
     let e = c .before .before .before in
     let i = e .before .loop .inv in
-    let a = subst (λ (y : ℕ). e .before .before .before .args .v < y) (c .before .before .lookup-to .ensures) (c .if3 .taken) in
-    (ready-left _ _ _ _ (i .0) (e .if1 .left) a, sym (from-left _ _ _ _ _ (e .if1 .left) a) ∙ i .1, probe-high _ _ _ _ (i .0) (e .if1 .left))
+    let a = subst (λ (y : ℕ). e .before .before .before .args .v < y) (c .before .before .lookup-to .ensures)
+    (c .if3 .taken) in (
+      ready-left _ _ _ _ (i .0) (e .if1 .left) a,
+      sym (from-left _ _ _ _ _ (e .if1 .left) a) ∙ i .1,
+      probe-high _ _ _ _ (i .0) (e .if1 .left),
+    )
 
 add-l : tie.Need-add-l Inv-loop μ-loop
 add-l c = omega (arith, c .before .before .before .before .loop .inv .0 .high)
@@ -65,9 +71,13 @@ loop-again-2 : tie.Need-loop-again-2 Inv-loop μ-loop
 loop-again-2 c =
     let e = c .before .before .before in
     let i = e .before .loop .inv in
-    let h : c .before .before .lookup-to .result < e .before .before .before .args .v = omega (arith, c .before .if2 .left, c .if3 .left) in
-    let b = subst (λ (y : ℕ). y < e .before .before .before .args .v) (c .before .before .lookup-to .ensures) h in
-    (ready-right _ _ _ _ (i .0) (e .if1 .left), sym (from-right _ _ _ _ _ (e .if1 .left) b) ∙ i .1, probe-high _ _ _ _ (i .0) (e .if1 .left))
+    let h : c .before .before .lookup-to .result < e .before .before .before .args .v =
+    omega (arith, c .before .if2 .left, c .if3 .left) in
+    let b = subst (λ (y : ℕ). y < e .before .before .before .args .v) (c .before .before .lookup-to .ensures) h in (
+      ready-right _ _ _ _ (i .0) (e .if1 .left),
+      sym (from-right _ _ _ _ _ (e .if1 .left) b) ∙ i .1,
+      probe-high _ _ _ _ (i .0) (e .if1 .left),
+    )
 
 returns : tie.Need-returns Inv-loop μ-loop
 returns c = sym (from-over _ _ _ _ _ (omega arith)) ∙ c .before .loop .inv .1
@@ -75,7 +85,8 @@ returns c = sym (from-over _ _ _ _ _ (omega arith)) ∙ c .before .loop .inv .1
 returns-2 : tie.Need-returns-2 Inv-loop μ-loop
 returns-2 c =
     let e = c .before .before in
-    sym (from-hit _ _ _ _ _ (e .if1 .left) (sym (c .before .lookup-to .ensures) ∙ c .if2 .taken)) ∙ e .before .loop .inv .1
+    sym (from-hit _ _ _ _ _ (e .if1 .left) (sym (c .before .lookup-to .ensures) ∙ c .if2 .taken))
+    ∙ e .before .loop .inv .1
 
 pub search-spec : {M : Type 1} → statement M
 search-spec =

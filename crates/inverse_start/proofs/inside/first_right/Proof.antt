@@ -1,4 +1,5 @@
--- `first_right` meets its contract: where every entry is 65535 the whole numbers go below 0, and otherwise nothing wraps. Assumes nothing.
+-- `first_right` meets its contract: where every entry is 65535, n - 1 - w would be below 0, and is not worked out;
+-- otherwise nothing wraps. Assumes nothing.
 use mathlib.Core.Path.{sym}
 use Prim.Native.Nat.{_≤_, _<_}
 use native.Mathlib.Omega.{arith}

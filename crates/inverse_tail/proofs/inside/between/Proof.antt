@@ -59,7 +59,8 @@ returns-2 : tie.Need-returns-2
 returns-2 c =
     let e = c .before .before .before .before .before .before .before .before .before in
     let s = e .before .before in
-    nearly-flat (now (s .args .table)) (s .args .x) (s .args .v) (s .args .cell0) (s .args .cell1) (e .if1 .left) (c .before .abs-f64 .ensures) (c .if2 .taken)
+    nearly-flat (now (s .args .table)) (s .args .x) (s .args .v) (s .args .cell0) (s .args .cell1) (e .if1 .left)
+    (c .before .abs-f64 .ensures) (c .if2 .taken)
 
 int-to-float-rounded : tie.Need-int-to-float-rounded
 int-to-float-rounded c = search needs
@@ -72,7 +73,8 @@ returns-3 c =
     let f = c .before .before in
     let e = f .before .before .before .before .before .before .before .before .before in
     let s = e .before .before in
-    sloped (now (s .args .table)) (s .args .x) (s .args .v) (s .args .cell0) (s .args .cell1) (e .if1 .left) (f .before .abs-f64 .ensures) (f .if2 .left) (c .rounded .ensures)
+    sloped (now (s .args .table)) (s .args .x) (s .args .v) (s .args .cell0) (s .args .cell1) (e .if1 .left)
+    (f .before .abs-f64 .ensures) (f .if2 .left) (c .rounded .ensures)
 
 pub between-spec : {M : Type 1} → statement M
 between-spec =

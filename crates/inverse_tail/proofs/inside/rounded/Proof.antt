@@ -13,7 +13,10 @@ floor-f64-requires c κs = rounded-asks (c .before .before .args .f) (c .before 
 cast-result : tie.Need-cast-result
 cast-result c =
     let e = c .before in
-    omega (arith, rounded-small (e .before .before .args .f) (e .before .if1 .left) (e .if2 .taken) (c .floor-f64 .ensures))
+    omega (
+      arith,
+      rounded-small (e .before .before .args .f) (e .before .if1 .left) (e .if2 .taken) (c .floor-f64 .ensures),
+    )
 
 returns-2 : tie.Need-returns-2
 returns-2 c =

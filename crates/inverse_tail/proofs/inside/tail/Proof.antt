@@ -36,24 +36,32 @@ int-to-float-place-2 : tie.Need-int-to-float-place-2
 int-to-float-place-2 c = search needs
 
 floor-f64-requires : tie.Need-floor-f64-requires
-floor-f64-requires c κs = let s = c .before .before .before in place-asks (now (s .args .table)) (s .args .x) (some s) (few s) (small s)
+floor-f64-requires c κs =
+    let s = c .before .before .before in place-asks (now (s .args .table)) (s .args .x) (some s) (few s) (small s)
 
 ceil-f64-requires : tie.Need-ceil-f64-requires
-ceil-f64-requires c κs = let s = c .before .before .before .before in place-asks (now (s .args .table)) (s .args .x) (some s) (few s) (small s)
+ceil-f64-requires c κs =
+    let s = c .before .before .before .before in
+    place-asks (now (s .args .table)) (s .args .x) (some s) (few s) (small s)
 
 between-requires : tie.Need-between-requires
 between-requires c κs =
     let s = c .before .before .before .before .before in
     record {
       few = few s;
-      inside0 = cell0-inside (now (s .args .table)) (s .args .x) (some s) (few s) (small s) (c .before .floor-f64 .ensures) (c .ceil-f64 .ensures);
-      inside1 = cell1-inside (now (s .args .table)) (s .args .x) (some s) (few s) (small s) (c .before .floor-f64 .ensures) (c .ceil-f64 .ensures);
+      inside0 =
+          cell0-inside (now (s .args .table)) (s .args .x) (some s) (few s) (small s) (c .before .floor-f64 .ensures)
+          (c .ceil-f64 .ensures);
+      inside1 =
+          cell1-inside (now (s .args .table)) (s .args .x) (some s) (few s) (small s) (c .before .floor-f64 .ensures)
+          (c .ceil-f64 .ensures);
     }
 
 returns : tie.Need-returns
 returns c =
     let s = c .before .before .before .before .before .before in
-    tail-is (now (s .args .table)) (s .args .x) (some s) (few s) (small s) (c .before .before .floor-f64 .ensures) (c .before .ceil-f64 .ensures) (s .args .v) (c .between .ensures)
+    tail-is (now (s .args .table)) (s .args .x) (some s) (few s) (small s) (c .before .before .floor-f64 .ensures)
+    (c .before .ceil-f64 .ensures) (s .args .v) (c .between .ensures)
 
 pub tail-spec : {M : Type 1} → statement M
 tail-spec =

@@ -1,4 +1,5 @@
--- `first_reaching` meets its contract. The invariant: the two indices bracket the first entry that is not below v. Assumes nothing.
+-- `first_reaching` meets its contract. The invariant: the two indices bracket the first entry that is not below v.
+-- Assumes nothing.
 use Prim.Native.Nat.{_-_}
 use native.Mathlib.Omega.{arith}
 use borrow.Author.Needs.{needs}

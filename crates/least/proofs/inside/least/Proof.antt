@@ -1,4 +1,5 @@
--- `least` meets its contract: the first entry that is not below v begins the table, or ends a cell. Assumes nothing.
+-- `least` meets its contract: the first entry that is not below v is the table's first, or the upper end of a cell.
+-- Assumes nothing.
 use mathlib.Core.Path.{sym}
 use native.Mathlib.Omega.{arith}
 use borrow.Author.Needs.{needs}
@@ -13,8 +14,11 @@ first-reaching-requires c κs = search needs
 
 returns : tie.Need-returns
 returns c =
-    let b = c .before in
-    (sym (table-first (b .before .before .pre .0 .passed) _ (found-first (b .first-reaching .ensures) (c .if1 .taken))), zero-le)
+    let b = c .before in (
+      sym (table-first (b .before .before .pre .0 .passed) _
+          (found-first (b .first-reaching .ensures) (c .if1 .taken))),
+      zero-le,
+    )
 
 sub-in-cell : tie.Need-sub-in-cell
 sub-in-cell c = search needs

@@ -8,7 +8,8 @@ use borrow.Author.Needs.{needs}
 use Rattle.lookup.proofs.inside.mix.Statement.{statement}
 use Rattle.lookup.proofs.inside.mix.Tie as tie
 
-whole : (c : tie.Start) → c .args .hi * c .args .interp + c .args .lo * (c .args .cap - c .args .interp) ≤ 65535 * c .args .cap
+whole : (c : tie.Start)
+    → c .args .hi * c .args .interp + c .args .lo * (c .args .cap - c .args .interp) ≤ 65535 * c .args .cap
 whole c = sum-le _ _ _ 65535 _ (c .pre .1) (c .pre .0) (le-of-lt (c .pre .2))
 
 mul-result : tie.Need-mul-result

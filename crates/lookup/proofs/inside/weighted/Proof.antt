@@ -16,10 +16,14 @@ rem-interp : tie.Need-rem-interp
 rem-interp c = search needs
 
 entry-requires : tie.Need-entry-requires
-entry-requires c κs = rw (c .div-ceil .ensures) (upper-lt _ _ _ (c .before .before .pre .pos) (c .before .before .pre .some) (c .before .before .pre .inside))
+entry-requires c κs =
+    rw (c .div-ceil .ensures)
+    (upper-lt _ _ _ (c .before .before .pre .pos) (c .before .before .pre .some) (c .before .before .pre .inside))
 
 entry-requires-2 : tie.Need-entry-requires-2
-entry-requires-2 c κs = lower-lt _ _ _ (c .before .before .before .pre .pos) (c .before .before .before .pre .some) (c .before .before .before .pre .inside)
+entry-requires-2 c κs =
+    lower-lt _ _ _ (c .before .before .before .pre .pos) (c .before .before .before .pre .some)
+    (c .before .before .before .pre .inside)
 
 mix-requires : tie.Need-mix-requires
 mix-requires c κs =
@@ -29,7 +33,8 @@ mix-requires c κs =
 returns : tie.Need-returns
 returns c =
     let reads = c .before .before in (
-      sum-read _ _ _ (reads .before .div-ceil .ensures) (reads .entry .ensures .0) (c .before .entry2 .ensures .0) (c .mix .ensures .0),
+      sum-read _ _ _ (reads .before .div-ceil .ensures) (reads .entry .ensures .0) (c .before .entry2 .ensures .0)
+          (c .mix .ensures .0),
       c .mix .ensures .1,
     )
 

@@ -24,4 +24,5 @@ returns-3 : tie.Need-returns-3
 returns-3 c = rw (c .before .before .answer .given .1, c .number .ensures)
 
 pub as-degeneration-spec : {M : Type 1} → statement M
-as-degeneration-spec = tie.close (tie.spec enum-told enum-told-2 enum-known-answer number-requires returns returns-2 returns-3)
+as-degeneration-spec =
+    tie.close (tie.spec enum-told enum-told-2 enum-known-answer number-requires returns returns-2 returns-3)

@@ -24,4 +24,6 @@ returns-3 : tie.Need-returns-3
 returns-3 c = rw (c .before .before .answer3 .given .1, c .number .ensures)
 
 pub as-monotony-spec : {M : Type 1} → statement M
-as-monotony-spec = tie.close (tie.spec enum-known-answer enum-known-answer-2 enum-known-answer-3 number-requires returns returns-2 returns-3)
+as-monotony-spec =
+    tie.close (tie.spec enum-known-answer enum-known-answer-2 enum-known-answer-3 number-requires returns
+    returns-2 returns-3)

@@ -1,4 +1,4 @@
--- `first_guess` meets its contract: with m for how many binary digits v has, it is a step from 2^(m/2). Assumes
+-- `first_guess` meets its contract: it is a Newton step from 2^(m/2), where m is how many binary digits v has. Assumes
 -- nothing.
 use mathlib.Core.Path.{_≡_, refl, sym, ap, subst}
 use Prim.Native.Nat.{ℕ, _+_, _-_, _*_, _/_, _%_, _^_, _≤_, _<_}

@@ -1,5 +1,5 @@
--- `power` meets its contract. The invariant of each loop: what the definition makes of a and of what is left of the
--- exponent is the power, and a is at most what stands for 1. Assumes nothing.
+-- `power` meets its contract. The invariant of each loop: from a and the rest of the exponent the definition makes the
+-- power, and a is at most what stands for 1. Assumes nothing.
 use mathlib.Core.Path.{_≡_, refl, sym, ap, _∙_}
 use Prim.Native.Nat.{_-_, _≤_}
 use native.Mathlib.Nat.{mul-le-mul, le-trans}

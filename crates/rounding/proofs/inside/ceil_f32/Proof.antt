@@ -19,12 +19,14 @@ add-result c = search needs
 returns : tie.Need-returns
 returns c =
     let s = c .before .before in
-    ceil-gives (s .before .args .x) (s .before .pre) binary32 (s .floor-f32 .result) true (s .floor-f32 .ensures) (c .if1 .taken)
+    ceil-gives (s .before .args .x) (s .before .pre) binary32 (s .floor-f32 .result) true (s .floor-f32 .ensures)
+    (c .if1 .taken)
 
 returns-2 : tie.Need-returns-2
 returns-2 c =
     let s = c .before .before in
-    ceil-gives (s .before .args .x) (s .before .pre) binary32 (s .floor-f32 .result) false (s .floor-f32 .ensures) (c .if1 .left)
+    ceil-gives (s .before .args .x) (s .before .pre) binary32 (s .floor-f32 .result) false (s .floor-f32 .ensures)
+    (c .if1 .left)
 
 pub ceil-f32-spec : {M : Type 1} → statement M
 ceil-f32-spec = tie.close (tie.spec floor-f32-requires int-to-float-if1 add-result returns returns-2)

@@ -19,12 +19,14 @@ add-result c = search needs
 returns : tie.Need-returns
 returns c =
     let s = c .before .before in
-    ceil-gives (s .before .args .x) (s .before .pre) binary64 (s .floor-f64 .result) true (s .floor-f64 .ensures) (c .if1 .taken)
+    ceil-gives (s .before .args .x) (s .before .pre) binary64 (s .floor-f64 .result) true (s .floor-f64 .ensures)
+    (c .if1 .taken)
 
 returns-2 : tie.Need-returns-2
 returns-2 c =
     let s = c .before .before in
-    ceil-gives (s .before .args .x) (s .before .pre) binary64 (s .floor-f64 .result) false (s .floor-f64 .ensures) (c .if1 .left)
+    ceil-gives (s .before .args .x) (s .before .pre) binary64 (s .floor-f64 .result) false (s .floor-f64 .ensures)
+    (c .if1 .left)
 
 pub ceil-f64-spec : {M : Type 1} → statement M
 ceil-f64-spec = tie.close (tie.spec floor-f64-requires int-to-float-if1 add-result returns returns-2)

@@ -7,7 +7,9 @@ truncating-f64-to-u64-requires : tie.Need-truncating-f64-to-u64-requires
 truncating-f64-to-u64-requires c κs = cut-asks (c .args .x) (c .pre)
 
 returns : tie.Need-returns
-returns c = floor-gives (c .before .args .x) (c .before .pre) (c .truncating-f64-to-u64 .result) (c .truncating-f64-to-u64 .ensures)
+returns c =
+    floor-gives (c .before .args .x) (c .before .pre) (c .truncating-f64-to-u64 .result)
+    (c .truncating-f64-to-u64 .ensures)
 
 pub floor-f64-spec : {M : Type 1} → statement M
 floor-f64-spec = tie.close (tie.spec truncating-f64-to-u64-requires returns)

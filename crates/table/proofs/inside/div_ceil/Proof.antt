@@ -1,4 +1,4 @@
--- `div_ceil` meets its contract: it is one more than the quotient exactly where something is left over. Assumes nothing.
+-- `div_ceil` meets its contract: it is one more than the quotient exactly where there is a remainder. Assumes nothing.
 use mathlib.Core.Path.{sym}
 use native.Mathlib.Omega.{arith}
 use borrow.Author.Needs.{needs}

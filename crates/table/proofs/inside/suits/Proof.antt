@@ -14,7 +14,8 @@ not-above-right-requires : tie.Need-not-above-right-requires
 not-above-right-requires c κs = search needs
 
 returns-2 : tie.Need-returns-2
-returns-2 c = simp (holds (c .before .before .not-below-left .ensures) (c .before .if1 .left), c .not-above-right .ensures)
+returns-2 c =
+    simp (holds (c .before .before .not-below-left .ensures) (c .before .if1 .left), c .not-above-right .ensures)
 
 pub suits-spec : {M : Type 1} → statement M
 suits-spec =
