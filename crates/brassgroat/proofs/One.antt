@@ -1,5 +1,6 @@
--- Each export's contract names one answer and one later state of its buffer: what holds of the library's promise holds of what crosses. The contracts are
--- the exports' own, read from the source (`Post`), so that one that says less than its promise has no law here. Assumes nothing.
+-- Each export's contract names one answer and one later state of its buffers, since the library's promise does. The
+-- contracts are the exports' own, read from the source (`Post`): one that said less than its promise could have no law
+-- here. Assumes nothing.
 use Prim.Native.Nat.{ℕ, _+_}
 use mathlib.Core.Path.{_≡_, sym, ap, _∙_}
 use mathlib.Core.List.{List}
@@ -40,7 +41,8 @@ use Rattle.para_writer.proofs.Promises as para-writer
 use Rattle.plain_answers.specs.Answers.{asDirection}
 use Rattle.brassgroat.specs.declared.curv_tags.Part.{Part}
 use Rattle.brassgroat.specs.Carried.{Carried, PartCarried}
-use Rattle.brassgroat.specs.Contract.{OneAnswer, OneAnswerAndBuffer, OneAnswerAndTwo, OneAnswerAndThree, first, second, third}
+use Rattle.brassgroat.specs.Contract.{OneAnswer, OneAnswerAndBuffer, OneAnswerAndTwo, OneAnswerAndThree, first}
+use Rattle.brassgroat.specs.Contract.{second, third}
 use Rattle.brassgroat.proofs.lookups.bg_lut_interp_linear16.Reads as bg_lut_interp_linear16
 use Rattle.brassgroat.proofs.lookups.bg_lut_interp_linear16_row.Reads as bg_lut_interp_linear16_row
 use Rattle.brassgroat.proofs.lookups.bg_bake.Reads as bg_bake
@@ -83,6 +85,7 @@ use Rattle.brassgroat.proofs.version.bg_version.Reads as bg_version
 
 -- One answer of the library is one of the face; and so it is beside a later state.
 module _ {K A L R E : Type 0} {places : L → R} where
+  -- Where one answer of the library keeps a promise, one answer of the face keeps it carried over. [brassgroat]
   pub one-answer :
       {P : K → A → L → Type 0} →
       ((κs : K) (a : A) (l m : L) → P κs a l → P κs a m → l ≡ m) →
@@ -90,6 +93,7 @@ module _ {K A L R E : Type 0} {places : L → R} where
   one-answer one κs a r s e f x y =
       x .same ∙ ap places (one κs a (x .answer) (y .answer) (x .kept) (y .kept)) ∙ sym (y .same)
 
+  -- Where the answer and the later buffer are one in the library, they are one in the face. [brassgroat]
   pub one-both :
       {S : Type 0} {buffer : E → S} {P : K → A → E → L → Type 0} →
       ((κs : K) (a : A) (e f : E) (l m : L) → P κs a e l → P κs a f m → (l ≡ m) × (buffer e ≡ buffer f)) →
@@ -231,7 +235,7 @@ bg-curve-one = one-answer (λ κs a l m. curve-one)
 pub bg-write-para-one : OneAnswerAndBuffer bg_para_write.Post third
 bg-write-para-one = one-both (λ κs a e f l m. para-writer.write-one)
 
--- The part of a tag: two starts that lead to one place are one.
+-- A tag's part has one answer in the face: two starts that lead to one place are one. [brassgroat]
 pub part-carried-one : {tag : RefT (List ℕ)} {r s : Part} → PartCarried tag r → PartCarried tag s → r ≡ s
 part-carried-one {tag} {r} {s} x y =
     let same = part-one (x .kept) (y .kept) in

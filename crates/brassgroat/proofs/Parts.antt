@@ -1,4 +1,4 @@
--- The part of a tag as it crosses, made of the library's part. Assumes nothing.
+-- The part of a tag as C and Rust see it, made of the library's part. Assumes nothing.
 use Prim.Native.Nat.{ℕ}
 use mathlib.Core.Path.{_≡_, refl, sym, ap, subst, _∙_}
 use mathlib.Core.List.{List, []}
@@ -15,9 +15,16 @@ use Rattle.brassgroat.specs.Carried.{PartCarried}
 module _ {tag part : RefT (List ℕ)} {why : ℕ} (kept : PartPromise tag part why) where
   -- a number other than 0 is a refusal's, and then the part is empty and lies at the tag's start
   pub part-refused : (why ≡ 0 → ⊥) → PartCarried tag (record { refusal = why; start = 0; len = 0 })
-  part-refused some = record { part = part; kept = kept; start = by (tagVerdict (now tag)) (kept .number) (kept .place); len = empty (tagVerdict (now tag)) (kept .number) (kept .bytes) }
+  part-refused some =
+      record {
+        part = part;
+        kept = kept;
+        start = by (tagVerdict (now tag)) (kept .number) (kept .place);
+        len = empty (tagVerdict (now tag)) (kept .number) (kept .bytes);
+      }
     where
-      by : (v : Verdict) → why ≡ numberIn v → part .ptr ≡ ifGranted v (past 12 (tag .ptr)) (tag .ptr) → part .ptr ≡ past 0 (tag .ptr)
+      by : (v : Verdict) → why ≡ numberIn v → part .ptr ≡ ifGranted v (past 12 (tag .ptr)) (tag .ptr)
+          → part .ptr ≡ past 0 (tag .ptr)
       by granted e place = absurd (some e)
       by (refused w) e place = place ∙ ap (λ (k : ℕ). (tag .ptr .0, k)) (sym (zero-add (tag .ptr .1)))
 
@@ -27,8 +34,15 @@ module _ {tag part : RefT (List ℕ)} {why : ℕ} (kept : PartPromise tag part w
 
   -- the number 0 is no refusal's, and then the part lies twelve bytes after the tag's start
   pub part-granted : why ≡ 0 → PartCarried tag (record { refusal = 0; start = 12; len = length (now part) })
-  part-granted none = record { part = part; kept = subst (PartPromise tag part) none kept; start = by (tagVerdict (now tag)) (kept .number) (kept .place); len = refl }
+  part-granted none =
+      record {
+        part = part;
+        kept = subst (PartPromise tag part) none kept;
+        start = by (tagVerdict (now tag)) (kept .number) (kept .place);
+        len = refl;
+      }
     where
-      by : (v : Verdict) → why ≡ numberIn v → part .ptr ≡ ifGranted v (past 12 (tag .ptr)) (tag .ptr) → part .ptr ≡ past 12 (tag .ptr)
+      by : (v : Verdict) → why ≡ numberIn v → part .ptr ≡ ifGranted v (past 12 (tag .ptr)) (tag .ptr)
+          → part .ptr ≡ past 12 (tag .ptr)
       by granted e place = place
       by (refused w) e place = absurd (omega (arith, number-above w))

@@ -23,6 +23,7 @@ module _ (n len : ℕ) where
   unfolding total
   total-other e = ne-eqb _ _ e
 
+  -- The test of the total holds only of 12 + 2n bytes. [curv::count_entries]
   pub total-exact : total n len ≡ true → len ≡ tagLength n
   unfolding total
   total-exact e = eqb-true _ _ e
@@ -68,6 +69,7 @@ pub record Readable (b : List ℕ) : Type 0 where
   pub few : countOf b ≤ 65536
   pub whole : total (countOf b) (length b) ≡ true
 
+-- A tag that is granted has passed all five tests. [curv::count_entries]
 pub readable : (b : List ℕ) → tagVerdict b ≡ granted → Readable b
 unfolding tagVerdict
 readable b e =
@@ -84,5 +86,6 @@ readable b e =
       whole = t .0;
     }
 
+-- A tag that passes all five tests is granted. [curv::count_entries]
 pub grants : (b : List ℕ) → Readable b → tagVerdict b ≡ granted
 grants b r = right b (r .twelve) (r .signed) (r .zeros) (r .few) (r .whole)

@@ -12,6 +12,7 @@ use Rattle.icc.specs.Bytes.{EightBits}
 use Rattle.icc.proofs.Numbers.{below16}
 use Rattle.curv.specs.Tag.{entryAt}
 
+-- The entries of a tag are 16 bits wide. [curv_reader::read_curv]
 pub entries-wide : (b : List ℕ) → EightBits b → (n : ℕ) → SixteenBits (tabulated (entryAt b) n)
 unfolding entryAt
 entries-wide b w n i = ⊎-elim inside outside (below? i n)

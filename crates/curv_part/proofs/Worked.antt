@@ -11,11 +11,13 @@ use Rattle.curv_part.specs.Promises.{past, PartPromise}
 
 -- The part, wherever the tag lies.
 module _ (at : ℕ × ℕ) (g h : GName) where
-  two-part : PartPromise (record { ptr = at; name = g; now = two }) (record { ptr = past 12 at; name = h; now = 18 ∷ 52 ∷ 255 ∷ 254 ∷ [] }) 0
+  two-part : PartPromise (record { ptr = at; name = g; now = two })
+      (record { ptr = past 12 at; name = h; now = 18 ∷ 52 ∷ 255 ∷ 254 ∷ [] }) 0
   unfolding tagVerdict total be32
   two-part = record { number = refl; bytes = refl; place = refl }
 
-  none-part : PartPromise (record { ptr = at; name = g; now = none }) (record { ptr = past 12 at; name = h; now = [] }) 0
+  none-part : PartPromise (record { ptr = at; name = g; now = none })
+      (record { ptr = past 12 at; name = h; now = [] }) 0
   unfolding tagVerdict total be32
   none-part = record { number = refl; bytes = refl; place = refl }
 

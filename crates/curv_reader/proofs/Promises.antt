@@ -1,4 +1,5 @@
--- How a reading's promise is met, case by case; what an answer that keeps it tells; and that it names one answer and one later state. Assumes nothing.
+-- How a reading's promise is met, case by case; what an answer that keeps it tells; and that it names one answer and
+-- one later state. Assumes nothing.
 use mathlib.Core.Path.{_≡_, _∙_, refl, sym, ap}
 use mathlib.Core.List.{List}
 use Prim.Native.Nat.{ℕ}
@@ -25,23 +26,33 @@ module _ (b out : List ℕ) where
   read-refusal : (why : Refusal) → readVerdict b out ≡ refused why → ReadPromise b out (Done.Refused why) out
   read-refusal why e = record { number = verdict-number e; after = verdict-gives (entriesOf b) out e }
 
+  -- Where the tests refuse the tag, that refusal and the buffer as it was keep the promise. [curv_reader::read_curv]
   pub read-refused : (why : Refusal) → tagVerdict b ≡ refused why → ReadPromise b out (Done.Refused why) out
   read-refused why e = read-refusal why (rw e refl)
 
-  pub read-misfit : tagVerdict b ≡ granted → (length out ≡ countOf b → ⊥) → ReadPromise b out (Done.Refused OutputLength) out
+  -- With a buffer of another length, refusing with 6 and leaving it keeps the promise. [curv_reader::read_curv]
+  pub read-misfit : tagVerdict b ≡ granted → (length out ≡ countOf b → ⊥)
+      → ReadPromise b out (Done.Refused OutputLength) out
   read-misfit e n = read-refusal OutputLength (rw (e, ne-eqb _ _ n) refl)
 
-  pub read-granted : (out′ : List ℕ) → tagVerdict b ≡ granted → length out ≡ countOf b → out′ ≡ tabulated (entryAt b) (length out) → ReadPromise b out Done.Yes out′
+  -- Where the tests pass, a buffer of the tag's count that holds its entries keeps the promise.
+  -- [curv_reader::read_curv]
+  pub read-granted : (out′ : List ℕ) → tagVerdict b ≡ granted → length out ≡ countOf b
+      → out′ ≡ tabulated (entryAt b) (length out) → ReadPromise b out Done.Yes out′
   read-granted out′ e n f =
       let g : readVerdict b out ≡ granted = rw (e, eq-eqb _ _ n) refl in
       record { number = verdict-number g; after = f ∙ ap (tabulated (entryAt b)) n ∙ verdict-gives (entriesOf b) out g }
 
-  pub granted-read : {out′ : List ℕ} → ReadPromise b out Done.Yes out′ → (tagVerdict b ≡ granted) × (length out ≡ countOf b) × (out′ ≡ entriesOf b)
+  -- A granted read had a tag that passes the tests and a buffer of its count, which then holds its entries.
+  -- [curv_reader::read_curv]
+  pub granted-read : {out′ : List ℕ} → ReadPromise b out Done.Yes out′
+      → (tagVerdict b ≡ granted) × (length out ≡ countOf b) × (out′ ≡ entriesOf b)
   granted-read p =
       let g : readVerdict b out ≡ granted = sym (same-verdict granted (readVerdict b out) (p .number)) in
       let v = and-then-granted (tagVerdict b) _ g in
       (v .0, eqb-true _ _ (rung-granted _ _ _ (v .1) .0), p .after ∙ verdict-gives (entriesOf b) out (sym g))
 
 -- The promise names one answer and one later state.
-pub read-one : {b out out′ out″ : List ℕ} {r s : Done} → ReadPromise b out r out′ → ReadPromise b out s out″ → (r ≡ s) × (out′ ≡ out″)
+pub read-one : {b out out′ out″ : List ℕ} {r s : Done} → ReadPromise b out r out′ → ReadPromise b out s out″
+    → (r ≡ s) × (out′ ≡ out″)
 read-one {r = r} {s = s} p q = (same-done r s (p .number ∙ sym (q .number)), p .after ∙ sym (q .after))

@@ -1,9 +1,11 @@
--- Worked examples, by computation: tags of no, one and two entries read, and each refusal, with the order of the refusals. Assumes nothing.
+-- Worked examples, by computation: tags of no, one and two entries read, and each refusal, with the order of the
+-- refusals. Assumes nothing.
 use mathlib.Core.Path.{refl}
 use mathlib.Core.List.{[], _∷_}
 use Rattle.table.specs.Fill.{tabulated}
 use Rattle.table.specs.declared.Done.{Done}
-use Rattle.table.specs.declared.Refusal.the-variants.{TableLength, OutputLength, TagLength, WrongSignature, ReservedNotZero}
+use Rattle.table.specs.declared.Refusal.the-variants.{TableLength, OutputLength, TagLength, WrongSignature}
+use Rattle.table.specs.declared.Refusal.the-variants.{ReservedNotZero}
 use Rattle.icc.specs.Bytes.{be16, be32}
 use Rattle.curv.specs.Tag.{entryAt, total}
 use Rattle.curv.specs.Promises.{tagVerdict}
@@ -23,15 +25,18 @@ unfolding tagVerdict total be16 be32 entryAt tabulated
 two-read = record { number = refl; after = refl }
 
 -- Each refusal of a read; the buffer stays as it was lent.
-short : ReadPromise (0x63 ∷ 0x75 ∷ 0x72 ∷ 0x76 ∷ 0 ∷ 0 ∷ 0 ∷ 0 ∷ 0 ∷ 0 ∷ 0 ∷ []) (7 ∷ []) (Done.Refused TagLength) (7 ∷ [])
+short : ReadPromise
+    (0x63 ∷ 0x75 ∷ 0x72 ∷ 0x76 ∷ 0 ∷ 0 ∷ 0 ∷ 0 ∷ 0 ∷ 0 ∷ 0 ∷ []) (7 ∷ []) (Done.Refused TagLength) (7 ∷ [])
 unfolding tagVerdict be32
 short = record { number = refl; after = refl }
 
-unsigned : ReadPromise (0x63 ∷ 0x75 ∷ 0x72 ∷ 0x77 ∷ 0 ∷ 0 ∷ 0 ∷ 1 ∷ 0 ∷ 0 ∷ 0 ∷ 0 ∷ []) [] (Done.Refused WrongSignature) []
+unsigned : ReadPromise (0x63 ∷ 0x75 ∷ 0x72 ∷ 0x77 ∷ 0 ∷ 0 ∷ 0 ∷ 1 ∷ 0 ∷ 0 ∷ 0 ∷ 0 ∷ []) []
+    (Done.Refused WrongSignature) []
 unfolding tagVerdict be32
 unsigned = record { number = refl; after = refl }
 
-unreserved : ReadPromise (0x63 ∷ 0x75 ∷ 0x72 ∷ 0x76 ∷ 0 ∷ 0 ∷ 0 ∷ 1 ∷ 0 ∷ 1 ∷ 0 ∷ 1 ∷ []) [] (Done.Refused ReservedNotZero) []
+unreserved : ReadPromise (0x63 ∷ 0x75 ∷ 0x72 ∷ 0x76 ∷ 0 ∷ 0 ∷ 0 ∷ 1 ∷ 0 ∷ 1 ∷ 0 ∷ 1 ∷ []) []
+    (Done.Refused ReservedNotZero) []
 unfolding tagVerdict be32
 unreserved = record { number = refl; after = refl }
 

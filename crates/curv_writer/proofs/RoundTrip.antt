@@ -1,4 +1,5 @@
--- What is written reads back the same, and tag bytes that are read are written back the same: of any calls that keep the promises. Assumes nothing.
+-- What is written reads back the same, and tag bytes that are read are written back the same: of any calls that keep
+-- the promises. Assumes nothing.
 use mathlib.Core.Path.{_≡_, _∙_, refl, sym, ap}
 use mathlib.Core.List.{List, _++_}
 use Prim.Native.Nat.{ℕ, _+_, _*_, _≤_}
@@ -30,7 +31,7 @@ use Rattle.curv_writer.specs.Promises.{writeVerdict, WritePromise}
 use Rattle.curv_writer.proofs.Written.{length-head, tag-count, tag-readable, tag-eight}
 use Rattle.curv_writer.proofs.Promises.{granted-write, write-one, write-granted}
 
--- the bytes of the part are those of the entries
+-- The bytes of a tag's part are those of the entries that are read. [curv_part::entry_bytes]
 pub part-entries : (b : List ℕ) → EightBits b → Readable b → partOf b ≡ bytesOf (entriesOf b)
 unfolding entryAt
 part-entries b w r = sym (words-kept two-bytes b w 12 (countOf b) (total-room (countOf b) (length b) (r .whole)))
@@ -46,7 +47,7 @@ head-read b w r =
     ∙ ap (λ (l : List ℕ). opening signature ++ l) (sym (bytes-be32 b w 8 twelve))
     )
 
--- and the whole is what is written for its entries
+-- A tag that passes the tests is what is written for its entries. [curv_reader::read_curv]
 pub tag-rewritten : (b : List ℕ) → EightBits b → Readable b → tagOf (entriesOf b) ≡ b
 tag-rewritten b w r =
     let n = countOf b in
@@ -77,22 +78,29 @@ module _ {t out tag : List ℕ} (written : WritePromise t out Done.Yes tag) wher
       rw (count-stated, tag-stated, drop-at (head (length t)) (bytesOf t) 12 (length-head (length t)))
       (take-all (2 * length t) (bytesOf t) (omega (arith, length-words two-bytes t)))
 
+  -- A written tag counts as the table's length. [curv_writer::write_curv, curv::count_entries]
   pub written-counts : {r : Counted} → CountPromise tag r → r ≡ Counted.Entries (length t)
   written-counts p = count-one p (count-granted tag (length t) granted-stated (sym count-stated))
 
-  pub written-reads : {buffer t′ : List ℕ} {r : Done} → length buffer ≡ length t → ReadPromise tag buffer r t′ → (r ≡ Done.Yes) × (t′ ≡ t)
+  -- A written tag reads as the table, into a buffer of its length. [curv_writer::write_curv, curv_reader::read_curv]
+  pub written-reads : {buffer t′ : List ℕ} {r : Done} → length buffer ≡ length t → ReadPromise tag buffer r t′
+      → (r ≡ Done.Yes) × (t′ ≡ t)
   written-reads {buffer} e p =
       let n : length buffer ≡ countOf tag = e ∙ sym count-stated in
       let s = read-one p (read-granted tag buffer _ granted-stated n refl) in
       (s .0, s .1 ∙ ap (tabulated (entryAt tag)) n ∙ entries-stated)
 
-  pub written-part : {lent part : RefT (List ℕ)} {why′ : ℕ} → now lent ≡ tag → PartPromise lent part why′ → (why′ ≡ 0) × (now part ≡ bytesOf t)
+  -- The part of a written tag is the bytes of the table's entries. [curv_writer::write_curv, curv_part::entry_bytes]
+  pub written-part : {lent part : RefT (List ℕ)} {why′ : ℕ} → now lent ≡ tag → PartPromise lent part why′
+      → (why′ ≡ 0) × (now part ≡ bytesOf t)
   written-part {lent} e p =
       let g = granted-part (rw e granted-stated) p in
       (g .0, g .1 ∙ ap partOf e ∙ part-stated)
 
--- Tag bytes that are read are written back the same, into a buffer of their length.
-pub read-writes : {b out t buffer b′ : List ℕ} {r : Done} → EightBits b → ReadPromise b out Done.Yes t → length buffer ≡ length b → WritePromise t buffer r b′
+-- Tag bytes that are read are written back the same, into a buffer of their length. [curv_writer::write_curv,
+-- curv_reader::read_curv]
+pub read-writes : {b out t buffer b′ : List ℕ} {r : Done} → EightBits b → ReadPromise b out Done.Yes t
+    → length buffer ≡ length b → WritePromise t buffer r b′
     → (r ≡ Done.Yes) × (b′ ≡ b)
 read-writes {b} {out} {t} {buffer} w read e p =
     let g = granted-read b out read in
@@ -103,13 +111,13 @@ read-writes {b} {out} {t} {buffer} w read e p =
     let s = write-one p (write-granted t buffer _ few room refl) in
     (s .0, s .1 ∙ ap tagOf (g .2) ∙ tag-rewritten b w ok)
 
--- What is written for 16-bit entries is eight bits wide,
+-- What is written for 16-bit entries is bytes, eight bits wide. [curv_writer::write_curv]
 pub written-eight : {t out tag : List ℕ} → SixteenBits t → WritePromise t out Done.Yes tag → EightBits tag
 written-eight {t} {out} wide written =
     let g = granted-write t out written in
     rw (g .2) (tag-eight t (g .0) wide)
 
--- and so, whatever a write answers, is the buffer after it, if it was before.
+-- Of 16-bit entries a write, whatever it answers, leaves bytes where bytes were. [curv_writer::write_curv]
 pub write-keeps-eight : {t out out′ : List ℕ} {r : Done}
     → SixteenBits t → EightBits out → WritePromise t out r out′ → EightBits out′
 write-keeps-eight {t} {out} {out′} wide eight p = go (writeVerdict t out) refl
@@ -118,8 +126,8 @@ write-keeps-eight {t} {out} {out′} wide eight p = go (writeVerdict t out) refl
     go granted e = written-eight {t = t} {out = out} wide (record { number = ap numberIn (sym e); after = p .after })
     go (refused why) e = rw (simp e at (p .after)) eight
 
--- So what was written is read, and written again the same, with nothing asked of its bytes: a write leaves what
--- `read-writes` asks for.
+-- What was written is read, and written again the same. Nothing is asked of its bytes: a write leaves what
+-- `read-writes` asks for. [curv_writer::write_curv]
 pub written-rewrites : {t out tag buffer t′ again tag′ : List ℕ} {q r : Done} → SixteenBits t
     → WritePromise t out Done.Yes tag
     → length buffer ≡ length t → ReadPromise tag buffer q t′ → length again ≡ length tag → WritePromise t′ again r tag′

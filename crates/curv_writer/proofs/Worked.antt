@@ -1,4 +1,5 @@
--- Worked examples, by computation: tables written, and each refusal; and that above 65,536 entries no total helps a tag. Assumes nothing.
+-- Worked examples, by computation: tables written, and each refusal; and that above 65,536 entries no total helps a
+-- tag. Assumes nothing.
 use mathlib.Core.Path.{_≡_, refl}
 use mathlib.Core.List.{List, [], _∷_}
 use Prim.Native.Nat.{ℕ, _<_}

@@ -1,4 +1,5 @@
--- The bytes that are written for a table: the stores that make the first twelve, and what the tests say of the whole. Assumes nothing.
+-- The bytes that are written for a table: the stores that make the first twelve, and what the tests say of the whole.
+-- Assumes nothing.
 use mathlib.Core.Path.{_≡_, _∙_, refl, ap}
 use mathlib.Core.List.{List, _++_, append-assoc}
 use Prim.Native.Nat.{ℕ, _+_, _≤_}
@@ -34,8 +35,10 @@ head-stored l n h =
 
 -- What is written passes the tests, and holds as many entries as the table.
 module _ (t : List ℕ) where
+  -- A table's tag has 12 bytes and two for each entry. [curv_writer::write_curv]
   pub length-tag : length (tagOf t) ≡ tagLength (length t)
-  length-tag = omega (arith, length-append (head (length t)) (bytesOf t), length-head (length t), length-words two-bytes t)
+  length-tag =
+      omega (arith, length-append (head (length t)) (bytesOf t), length-head (length t), length-words two-bytes t)
 
   in-three : tagOf t ≡ opening signature ++ (bytes32 (length t) ++ bytesOf t)
   unfolding head
@@ -50,6 +53,7 @@ module _ (t : List ℕ) where
   pub tag-count : countOf (tagOf t) ≡ length t
   tag-count = rw in-three (be32-bytes (opening signature) 8 (length t) (bytesOf t) (length-opening signature))
 
+  -- The tag of at most 65,536 entries passes the five tests. [curv_writer::write_curv]
   pub tag-readable : length t ≤ 65536 → Readable (tagOf t)
   tag-readable h =
       let n = tag-count in
@@ -61,7 +65,7 @@ module _ (t : List ℕ) where
         whole = rw (tag-count, length-tag) (total-right (length t) (tagLength (length t)) refl);
       }
 
-  -- and its bytes are eight bits wide, if the entries are 16
+  -- Its bytes are eight bits wide, if the entries are 16.
   pub tag-eight : length t ≤ 65536 → SixteenBits t → EightBits (tagOf t)
   tag-eight h wide =
       rw in-three

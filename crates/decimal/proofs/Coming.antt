@@ -1,4 +1,4 @@
--- What a number comes to in its place, by the tests that the code makes. Assumes nothing.
+-- What a number comes to where it stands, by the tests that the code makes. Assumes nothing.
 use Prim.Native.Nat.{ℕ, _+_, _-_, _≤_, _<_}
 use mathlib.Core.Bool.{Bool, true, false, true≢false}
 use mathlib.Core.Path.{_≡_, refl, sym, ap, _∙_}
@@ -29,13 +29,16 @@ with-digits n m r e f = record { none = λ t. absurd (true≢false (sym e ∙ t)
 pub comes-past : (n : Natural) (m : ℕ) → n .some ≡ true → 1 < n .past → m < 18446744073709551616 → Comes n m Sum.Wrong
 comes-past n m e p small = with-digits n m Sum.Wrong e (λ x s. far m x (omega (arith, s .above p)))
 
-pub comes-edge : (n : Natural) (m : ℕ) → n .some ≡ true → n .past ≡ 1 → m ≡ 18446744073709551615 → Comes n m Sum.OneAbove
+pub comes-edge : (n : Natural) (m : ℕ) → n .some ≡ true → n .past ≡ 1 → m ≡ 18446744073709551615
+    → Comes n m Sum.OneAbove
 comes-edge n m e p h = with-digits n m Sum.OneAbove e (λ x s. one-above m x (omega (arith, s .edge p, h)))
 
-pub comes-below-edge : (n : Natural) (m : ℕ) → n .some ≡ true → n .past ≡ 1 → m < 18446744073709551615 → Comes n m Sum.Wrong
+pub comes-below-edge : (n : Natural) (m : ℕ) → n .some ≡ true → n .past ≡ 1 → m < 18446744073709551615
+    → Comes n m Sum.Wrong
 comes-below-edge n m e p h = with-digits n m Sum.Wrong e (λ x s. far m x (omega (arith, s .edge p)))
 
-pub comes-within : (n : Natural) (m : ℕ) → n .some ≡ true → n .past ≡ 0 → n .value ≤ m → Comes n m (Sum.Suits (n .value))
+pub comes-within : (n : Natural) (m : ℕ) → n .some ≡ true → n .past ≡ 0 → n .value ≤ m
+    → Comes n m (Sum.Suits (n .value))
 comes-within n m e p h = with-digits n m _ e (λ x s. suits m x (n .value) (s .whole p) (omega (arith, s .whole p)))
 
 pub comes-above : (n : Natural) (m : ℕ) → n .some ≡ true → n .past ≡ 0 → n .value ≡ m + 1 → Comes n m Sum.OneAbove
@@ -61,20 +64,30 @@ outside false x h = simp (le-ltb x 2147483648 (omega arith), ne-eqb x 2147483648
 pub coded-none : (n : Natural) (minus : Bool) → n .some ≡ false → ComesCoded n minus Sum.Wrong
 coded-none n minus e = record { none = λ _. refl; some = λ t x s. absurd (true≢false (sym t ∙ e)) }
 
-coded-digits : (n : Natural) (minus : Bool) (r : Sum) → n .some ≡ true → ((x : ℕ) → Stands n x → r ≡ codeOf minus x) → ComesCoded n minus r
+coded-digits : (n : Natural) (minus : Bool) (r : Sum) → n .some ≡ true → ((x : ℕ) → Stands n x → r ≡ codeOf minus x)
+    → ComesCoded n minus r
 coded-digits n minus r e f = record { none = λ t. absurd (true≢false (sym e ∙ t)); some = λ _. f }
 
 pub coded-past : (n : Natural) (minus : Bool) → n .some ≡ true → 0 < n .past → ComesCoded n minus Sum.Wrong
 coded-past n minus e p = coded-digits n minus Sum.Wrong e (λ x s. outside minus x (omega (arith, past-more n x 0 s p)))
 
-pub coded-large : (n : Natural) (minus : Bool) → n .some ≡ true → n .past ≡ 0 → 2147483648 < n .value → ComesCoded n minus Sum.Wrong
+pub coded-large : (n : Natural) (minus : Bool) → n .some ≡ true → n .past ≡ 0 → 2147483648 < n .value
+    → ComesCoded n minus Sum.Wrong
 coded-large n minus e p h = coded-digits n minus Sum.Wrong e (λ x s. outside minus x (omega (arith, s .whole p)))
 
-pub coded-negative : (n : Natural) (minus : Bool) → n .some ≡ true → minus ≡ true → n .past ≡ 0 → n .value ≤ 2147483648 → ComesCoded n minus (Sum.Suits (2147483648 - n .value))
-coded-negative n minus e k p h = coded-digits n minus _ e (λ x s. negative x (n .value) (s .whole p) (omega (arith, s .whole p)) ∙ ap (λ (b : Bool). codeOf b x) (sym k))
+pub coded-negative : (n : Natural) (minus : Bool) → n .some ≡ true → minus ≡ true → n .past ≡ 0 → n .value ≤ 2147483648
+    → ComesCoded n minus (Sum.Suits (2147483648 - n .value))
+coded-negative n minus e k p h =
+    coded-digits n minus _ e
+    (λ x s. negative x (n .value) (s .whole p) (omega (arith, s .whole p)) ∙ ap (λ (b : Bool). codeOf b x) (sym k))
 
-pub coded-positive : (n : Natural) (minus : Bool) → n .some ≡ true → minus ≡ false → n .past ≡ 0 → n .value < 2147483648 → ComesCoded n minus (Sum.Suits (2147483648 + n .value))
-coded-positive n minus e k p h = coded-digits n minus _ e (λ x s. positive x (n .value) (s .whole p) (omega (arith, s .whole p)) ∙ ap (λ (b : Bool). codeOf b x) (sym k))
+pub coded-positive : (n : Natural) (minus : Bool) → n .some ≡ true → minus ≡ false → n .past ≡ 0 → n .value < 2147483648
+    → ComesCoded n minus (Sum.Suits (2147483648 + n .value))
+coded-positive n minus e k p h =
+    coded-digits n minus _ e
+    (λ x s. positive x (n .value) (s .whole p) (omega (arith, s .whole p)) ∙ ap (λ (b : Bool). codeOf b x) (sym k))
 
-pub coded-half : (n : Natural) (minus : Bool) → n .some ≡ true → minus ≡ false → n .past ≡ 0 → n .value ≡ 2147483648 → ComesCoded n minus Sum.OneAbove
-coded-half n minus e k p h = coded-digits n minus _ e (λ x s. half x (omega (arith, s .whole p)) ∙ ap (λ (b : Bool). codeOf b x) (sym k))
+pub coded-half : (n : Natural) (minus : Bool) → n .some ≡ true → minus ≡ false → n .past ≡ 0 → n .value ≡ 2147483648
+    → ComesCoded n minus Sum.OneAbove
+coded-half n minus e k p h =
+    coded-digits n minus _ e (λ x s. half x (omega (arith, s .whole p)) ∙ ap (λ (b : Bool). codeOf b x) (sym k))

@@ -1,4 +1,5 @@
--- A number with one digit more, by where the number stood before. 2^64 is 10 * 1844674407370955161 + 6. Assumes nothing.
+-- A number with one digit more, from what is known of the number before. 2^64 is 10 * 1844674407370955161 + 6. Assumes
+-- nothing.
 use Prim.Native.Nat.{ℕ, _+_, _-_, _*_, _≤_, _<_}
 use mathlib.Core.Logic.{⊎-elim}
 use mathlib.Core.Path.{_≡_, subst}
@@ -19,13 +20,16 @@ past-more n x d s p = ⊎-elim far near (below? 1 (n .past))
 
 -- r holds a number itself, is at 2^64, or is past it
 whole-stands : (r : Natural) (y : ℕ) → r .past ≡ 0 → r .value ≡ y → Stands r y
-whole-stands r y p v = record { whole = λ _. v; edge = λ e. absurd (omega (arith, e, p)); above = λ k. absurd (omega (arith, k, p)) }
+whole-stands r y p v =
+    record { whole = λ _. v; edge = λ e. absurd (omega (arith, e, p)); above = λ k. absurd (omega (arith, k, p)) }
 
 edge-stands : (r : Natural) (y : ℕ) → r .past ≡ 1 → y ≡ 18446744073709551616 → Stands r y
-edge-stands r y p v = record { whole = λ e. absurd (omega (arith, e, p)); edge = λ _. v; above = λ k. absurd (omega (arith, k, p)) }
+edge-stands r y p v =
+    record { whole = λ e. absurd (omega (arith, e, p)); edge = λ _. v; above = λ k. absurd (omega (arith, k, p)) }
 
 above-stands : (r : Natural) (y : ℕ) → r .past ≡ 2 → 18446744073709551616 < y → Stands r y
-above-stands r y p v = record { whole = λ e. absurd (omega (arith, e, p)); edge = λ e. absurd (omega (arith, e, p)); above = λ _. v }
+above-stands r y p v =
+    record { whole = λ e. absurd (omega (arith, e, p)); edge = λ e. absurd (omega (arith, e, p)); above = λ _. v }
 
 pub grows-past : (n r : Natural) (d : ℕ) → 0 < n .past → r .past ≡ 2 → GrowsBy n d r
 grows-past n r d p q = record { more = λ x s. above-stands r _ q (past-more n x d s p) }
@@ -33,10 +37,12 @@ grows-past n r d p q = record { more = λ x s. above-stands r _ q (past-more n x
 pub grows-whole : (n r : Natural) (d : ℕ) → n .past ≡ 0 → r .past ≡ 0 → r .value ≡ n .value * 10 + d → GrowsBy n d r
 grows-whole n r d p q v = record { more = λ x s. whole-stands r _ q (omega (arith, s .whole p, v)) }
 
-pub grows-over : (n r : Natural) (d : ℕ) → n .past ≡ 0 → r .past ≡ 2 → 18446744073709551616 < n .value * 10 + d → GrowsBy n d r
+pub grows-over : (n r : Natural) (d : ℕ) → n .past ≡ 0 → r .past ≡ 2 → 18446744073709551616 < n .value * 10 + d
+    → GrowsBy n d r
 grows-over n r d p q v = record { more = λ x s. above-stands r _ q (omega (arith, s .whole p, v)) }
 
-pub grows-edge : (n r : Natural) (d : ℕ) → n .past ≡ 0 → r .past ≡ 1 → n .value * 10 + d ≡ 18446744073709551616 → GrowsBy n d r
+pub grows-edge : (n r : Natural) (d : ℕ) → n .past ≡ 0 → r .past ≡ 1 → n .value * 10 + d ≡ 18446744073709551616
+    → GrowsBy n d r
 grows-edge n r d p q v = record { more = λ x s. edge-stands r _ q (omega (arith, s .whole p, v)) }
 
 -- a digit's byte is 48 more than its value

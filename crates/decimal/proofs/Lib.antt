@@ -1,3 +1,3 @@
--- `Growing`: a number with one digit more. `Coming`: what a number comes to in its place.
+-- `Growing`: a number with one digit more. `Coming`: what a number comes to where it stands.
 pub mod Growing
 pub mod Coming

@@ -1,4 +1,4 @@
--- The promise is met by an answer, and names that one alone; and the promise at each way out of the routine. Assumes nothing.
+-- The promise can be met, and names one answer; and how each way out of the routine keeps it. Assumes nothing.
 use mathlib.Core.Path.{_≡_, _∙_, refl, sym, ap}
 use mathlib.Core.Bool.{Bool, true, false}
 use mathlib.Core.List.{List}
@@ -16,7 +16,8 @@ use Rattle.degeneration.specs.Promises.{numberOfDegenerated, yesOfDegene
 use Rattle.degeneration.specs.declared.Degenerated.{Degenerated}
 
 -- a verdict's number and yes or no tell the whole verdict
-same-degenerated : (r s : Degenerated) → numberOfDegenerated r ≡ numberOfDegenerated s → yesOfDegenerated r ≡ yesOfDegenerated s → r ≡ s
+same-degenerated : (r s : Degenerated) → numberOfDegenerated r ≡ numberOfDegenerated s
+    → yesOfDegenerated r ≡ yesOfDegenerated s → r ≡ s
 same-degenerated Degenerated.Yes Degenerated.Yes n y = refl
 same-degenerated Degenerated.Yes Degenerated.No n y = absurd (omega arith)
 same-degenerated Degenerated.Yes (Degenerated.Refused b) n y = absurd (omega arith)
@@ -50,7 +51,8 @@ module _ (t : List ℕ) where
   degenerated-long e = record { number = simp e; yes = simp e }
 
   module _ (e : notAbove (length t) ≡ true) where
-    pub degenerated-judged : (b : Bool) → degenerated t ≡ b → DegeneratedPromise t (pick b Degenerated.Yes Degenerated.No)
+    pub degenerated-judged : (b : Bool) → degenerated t ≡ b
+        → DegeneratedPromise t (pick b Degenerated.Yes Degenerated.No)
     degenerated-judged true k = record { number = simp e; yes = simp (e, k) }
     degenerated-judged false k = record { number = simp e; yes = simp (e, k) }
 
@@ -59,10 +61,12 @@ module _ (t : List ℕ) where
   degeneratedAnswer =
       pick (notAbove (length t)) (pick (degenerated t) Degenerated.Yes Degenerated.No) (Degenerated.Refused TableLength)
 
+  -- The promise can be kept. [degeneration::is_curve_degenerated]
   pub degenerated-answered : DegeneratedPromise t degeneratedAnswer
   unfolding degeneratedAnswer
   degenerated-answered = go (notAbove (length t)) refl
     where
-      go : (f : Bool) → notAbove (length t) ≡ f → DegeneratedPromise t (pick f (pick (degenerated t) Degenerated.Yes Degenerated.No) (Degenerated.Refused TableLength))
+      go : (f : Bool) → notAbove (length t) ≡ f → DegeneratedPromise t
+          (pick f (pick (degenerated t) Degenerated.Yes Degenerated.No) (Degenerated.Refused TableLength))
       go false e = degenerated-long e
       go true e = degenerated-judged e (degenerated t) refl

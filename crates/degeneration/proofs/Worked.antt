@@ -12,7 +12,8 @@ use Rattle.degeneration.specs.Promises.{DegeneratedPromise}
 use Rattle.degeneration.specs.declared.Degenerated.{Degenerated}
 use Rattle.degeneration.proofs.Promises.{degenerated-long, degeneratedAnswer}
 
--- a run of 19 at an end is too short and one of 20 is not: at the first entry, and at the last
+-- A run of 19 at an end is too short and one of 20 is not: at the first entry, and at the last.
+-- [degeneration::is_curve_degenerated]
 end-runs :
     (degeneratedAnswer (replicate 19 5 ++ (6 ∷ [])) ≡ Degenerated.No)
     × (degeneratedAnswer (replicate 20 5 ++ (6 ∷ [])) ≡ Degenerated.Yes)
@@ -21,7 +22,8 @@ end-runs :
 unfolding degeneratedAnswer degenerated leading run
 end-runs = (refl, refl, refl, refl)
 
--- five in a hundred at both ends are no run that counts, and twenty in the middle are none; fewer than two entries have none; twenty alike are one
+-- Five in a hundred at both ends are no run that counts, and twenty in the middle are none. Fewer than two entries have
+-- none; twenty alike are one. [degeneration::is_curve_degenerated]
 no-percentage :
     (degeneratedAnswer (replicate 5 0 ++ (replicate 90 5 ++ replicate 5 9)) ≡ Degenerated.No)
     × (degeneratedAnswer (1 ∷ (replicate 20 5 ++ (9 ∷ []))) ≡ Degenerated.No)
@@ -33,4 +35,5 @@ no-percentage = (refl, refl, refl, refl, refl)
 
 -- 65,537 entries are refused
 degenerated-65537 : (x : ℕ) → DegeneratedPromise (replicate 65537 x) (Degenerated.Refused TableLength)
-degenerated-65537 x = degenerated-long _ (lt-leb (length (replicate 65537 x)) 65536 (omega (arith, length-replicate 65537 x)))
+degenerated-65537 x =
+    degenerated-long _ (lt-leb (length (replicate 65537 x)) 65536 (omega (arith, length-replicate 65537 x)))

@@ -1,5 +1,5 @@
--- The laws of the gamma lookup: its unit is at least cap, so that its answer is 16 bits wide; on a nondecreasing source it never falls as the input
--- rises, and it lies between what each of its two entries alone would give. Assumes nothing.
+-- The laws of the gamma lookup. Its unit is at least cap, so its answer is 16 bits wide. On a nondecreasing source it
+-- never falls as the input rises, and it lies between what each of its two entries alone would give. Assumes nothing.
 use Prim.Native.Nat.{ℕ, _+_, _-_, _*_, _/_, _^_, _≤_, _<_}
 use native.Mathlib.Nat.{le-trans, mul-le-mul-left, div-le-self, div-mul-le-self, div-lt-iff-lt-mul, le-div-iff-mul-le}
 use native.Mathlib.Omega.{arith}
@@ -37,26 +37,32 @@ rounded-fits s step unit pos c h =
     let below : (s + unit / 2) / unit < 65536 = div-lt-iff-lt-mul some .1 sum in
     omega arith
 
-module _ (N depth n : ℕ) (T : ℕ → ℕ) (two : 2 ≤ N) (shallow : 1 ≤ depth) (deep : depth ≤ 16) (some : 0 < n) (R : Rises n T) where
+module _ (N depth n : ℕ)
+    (T : ℕ → ℕ) (two : 2 ≤ N) (shallow : 1 ≤ depth) (deep : depth ≤ 16) (some : 0 < n) (R : Rises n T) where
   unit>0 : 0 < gammaUnit N depth
   unit>0 = omega (arith, unit-low N depth shallow deep)
 
-  -- what an entry alone would give
+  -- What an entry alone would give. [gamma::lut_interp_linear_gamma_impl]
   pub alone : ℕ → ℕ
   alone e = (e * (N - 1) + gammaUnit N depth / 2) / gammaUnit N depth
 
+  -- On a nondecreasing table the code is at least what its lower entry alone would give.
+  -- [gamma::lut_interp_linear_gamma_impl]
   pub lower-le-gamma : (x : ℕ) → x < N → alone (T (lower (N - 1) (steps n x))) ≤ gamma N depth T n x
   unfolding gamma alone
   lower-le-gamma x h =
       div-mono unit>0
       (omega (arith, lower-le-sum (N - 1) n T (omega arith) some R (steps n x) (steps-le n (omega arith))))
 
+  -- On a nondecreasing table the code is at most what its upper entry alone would give.
+  -- [gamma::lut_interp_linear_gamma_impl]
   pub gamma-le-upper : (x : ℕ) → x < N → gamma N depth T n x ≤ alone (T (upper (N - 1) (steps n x)))
   unfolding gamma alone
   gamma-le-upper x h =
       div-mono unit>0
       (omega (arith, sum-le-upper (N - 1) n T (omega arith) some R (steps n x) (steps-le n (omega arith))))
 
+  -- On a nondecreasing table the code never falls as the input rises. [gamma::lut_interp_linear_gamma_impl]
   pub gamma-never-falls : (x y : ℕ) → x ≤ y → y < N → gamma N depth T n x ≤ gamma N depth T n y
   unfolding gamma
   gamma-never-falls x y xy h =

@@ -1,3 +1,3 @@
--- `Laws`: what the lookups' shared laws over the divisor give here. `Promises`: the promise names one answer.
+-- `Laws`: what the laws that both lookups share give here. `Promises`: the promise names one answer.
 pub mod Laws
 pub mod Promises

@@ -13,5 +13,6 @@ same-coded (Coded.Value a) (Coded.Refused b) e v = absurd (omega (arith, number-
 same-coded (Coded.Refused a) (Coded.Value b) e v = absurd (omega (arith, number-above a))
 same-coded (Coded.Refused a) (Coded.Refused b) e v = ap Coded.Refused (same-refusal a b e)
 
-pub gamma-one : {t : List ℕ} {N depth x : ℕ} {r s : Coded} → GammaPromise t N depth x r → GammaPromise t N depth x s → r ≡ s
+pub gamma-one : {t : List ℕ} {N depth x : ℕ} {r s : Coded} → GammaPromise t N depth x r
+    → GammaPromise t N depth x s → r ≡ s
 gamma-one {t} {N} {depth} {x} {r} {s} a b = same-coded r s (a .number ∙ sym (b .number)) (a .value ∙ sym (b .value))

@@ -1,5 +1,5 @@
--- Each promise names one answer and one later state; the promise at each way out of the calls; and that an entry asked for is the filled table's.
--- Assumes nothing.
+-- Each promise names one answer and one later state; how each way out of the calls keeps its promise; and that an entry
+-- asked for is the filled table's. Assumes nothing.
 use mathlib.Core.Path.{_≡_, _∙_, refl, sym}
 use mathlib.Core.List.{List}
 use Prim.Native.Nat.{ℕ, _≤_, _<_}
@@ -17,11 +17,13 @@ use Rattle.house.specs.House.{IsEntry, IsHouse}
 use Rattle.house.specs.Promises.{entryVerdict, EntryPromise, fillVerdict, FillPromise}
 use Rattle.house.proofs.Rule.{one-entry, one-house}
 
-one-value : (v : Verdict) (i a b : ℕ) → whenGranted v (IsEntry i a) (a ≡ 0) → whenGranted v (IsEntry i b) (b ≡ 0) → a ≡ b
+one-value : (v : Verdict) (i a b : ℕ) → whenGranted v (IsEntry i a) (a ≡ 0)
+    → whenGranted v (IsEntry i b) (b ≡ 0) → a ≡ b
 one-value granted i a b p q = one-entry i a b p q
 one-value (refused why) i a b p q = p ∙ sym q
 
-one-after : (v : Verdict) (out a b : List ℕ) → whenGranted v (IsHouse a) (a ≡ out) → whenGranted v (IsHouse b) (b ≡ out) → a ≡ b
+one-after : (v : Verdict) (out a b : List ℕ) → whenGranted v (IsHouse a) (a ≡ out)
+    → whenGranted v (IsHouse b) (b ≡ out) → a ≡ b
 one-after granted out a b p q = one-house a b p q
 one-after (refused why) out a b p q = p ∙ sym q
 
@@ -30,7 +32,8 @@ entry-one i r s p q =
     same-looked r s (p .number ∙ sym (q .number))
     (one-value (entryVerdict i) i (valueOfLooked r) (valueOfLooked s) (p .value) (q .value))
 
-pub fill-one : (out : List ℕ) (r s : Done) (a b : List ℕ) → FillPromise out r a → FillPromise out s b → (r ≡ s) × (a ≡ b)
+pub fill-one : (out : List ℕ) (r s : Done) (a b : List ℕ) → FillPromise out r a → FillPromise out s b
+    → (r ≡ s) × (a ≡ b)
 fill-one out r s a b p q = (
   same-done r s (p .number ∙ sym (q .number)),
   one-after (fillVerdict out) out a b (p .after) (q .after),
@@ -44,10 +47,11 @@ module _ (i : ℕ) where
     pub entry-given : (n : Density) → IsEntry i (n .0) → EntryPromise i (Looked.At n)
     entry-given n p = record { number = simp (le-leb i 1023 h); value = simp (le-leb i 1023 h) p }
 
-    -- what a caller is given
+    -- For an index up to 1,023 the answer meets the rule. [house::entry]
     pub given-entry : (r : Looked) → EntryPromise i r → IsEntry i (valueOfLooked r)
     given-entry r p = simp (le-leb i 1023 h) at (p .value)
 
+    -- For an index up to 1,023 the answer is the filled curve's entry. [house::entry]
     pub entry-of-house : (r : Looked) (t : List ℕ) → EntryPromise i r → IsHouse t → valueOfLooked r ≡ getD t i 0
     entry-of-house r t p q = one-entry i (valueOfLooked r) (getD t i 0) (given-entry r p) (q .rule i (omega arith))
 
@@ -59,6 +63,6 @@ module _ (out out′ : List ℕ) where
     pub fill-done : IsHouse out′ → FillPromise out Done.Yes out′
     fill-done p = record { number = simp (eq-eqb (length out) 1024 h); after = simp (eq-eqb (length out) 1024 h) p }
 
-    -- what a caller is given
+    -- A buffer of 1,024 entries holds the house curve after the call. [house::fill]
     pub given-house : (r : Done) → FillPromise out r out′ → IsHouse out′
     given-house r p = simp (eq-eqb (length out) 1024 h) at (p .after)

@@ -25,10 +25,12 @@ module _ (p : List ℕ) (i x : ℕ) (q : List ℕ) (e : length p ≡ i) where
   later : (l : List ℕ) (k : ℕ) → getD (p ++ l) (i + k) 0 ≡ getD l k 0
   later l k = rw e at (getD-append-add p l k 0)
 
+  -- A 16-bit number is read as it was written, wherever it stands. [icc]
   pub be16-bytes : be16 (p ++ (bytes16 x ++ q)) i ≡ x
   unfolding be16 bytes16
   be16-bytes = let l = bytes16 x ++ q in omega (arith, first l, later l 1)
 
+  -- A 32-bit number is read as it was written, wherever it stands. [icc]
   pub be32-bytes : be32 (p ++ (bytes32 x ++ q)) i ≡ x
   unfolding be32 bytes32
   be32-bytes = let l = bytes32 x ++ q in omega (arith, first l, later l 1, later l 2, later l 3)
@@ -52,6 +54,7 @@ module _ (b : List ℕ) (w : EightBits b) where
   unfolding be16
   below16 i = omega (arith, w i, w (i + 1))
 
+  -- Two bytes are what is written for the 16-bit number that is read there. [icc]
   pub bytes-be16 : (i : ℕ) → i + 2 ≤ length b → bytes16 (be16 b i) ≡ take 2 (drop i b)
   unfolding be16 bytes16
   bytes-be16 i h =
@@ -59,6 +62,7 @@ module _ (b : List ℕ) (w : EightBits b) where
       let low : be16 b i % 256 ≡ getD b (i + 1) 0 = omega (arith, w i, w (i + 1)) in
       rw (high, low, drop-cons b i 0 (omega arith), add-one i, drop-cons b (suc i) 0 (omega arith)) refl
 
+  -- Four bytes are what is written for the 32-bit number that is read there. [icc]
   pub bytes-be32 : (i : ℕ) → i + 4 ≤ length b → bytes32 (be32 b i) ≡ take 4 (drop i b)
   bytes-be32 i h =
       let high : be32 b i / 65536 ≡ be16 b i = omega (arith, be32-halves b i, below16 (i + 2)) in

@@ -11,7 +11,8 @@ use Rattle.icc.specs.Opening.{opening}
 use Rattle.icc.proofs.Numbers.{length-bytes16, bytes32-halves}
 
 -- up to m, where the last of them stands
-pub take-sets : (l : List ℕ) (i : ℕ) (vs : List ℕ) (m : ℕ) → i + length vs ≡ m → m ≤ length l → take m (sets l i vs) ≡ take i l ++ vs
+pub take-sets : (l : List ℕ) (i : ℕ) (vs : List ℕ) (m : ℕ) → i + length vs ≡ m → m ≤ length l
+    → take m (sets l i vs) ≡ take i l ++ vs
 take-sets l i vs m e h =
     let long : length (take i l ++ vs) ≡ m
     = length-append (take i l) vs ∙ ap (λ (n : ℕ). n + length vs) (length-take-le i l (omega arith)) ∙ e in
@@ -25,9 +26,11 @@ sets-append l i (v ∷ vs) ws =
     ap (λ (k : ℕ). sets (sets (set l i v) (suc i) vs) k ws) on ∙ sets-append (set l i v) (suc i) vs ws
 
 -- so two halves are stored as the whole number
-pub halves-stored : (l : List ℕ) (i x : ℕ) → sets (sets l i (bytes16 (x / 65536))) (i + 2) (bytes16 (x % 65536)) ≡ sets l i (bytes32 x)
+pub halves-stored : (l : List ℕ) (i x : ℕ)
+    → sets (sets l i (bytes16 (x / 65536))) (i + 2) (bytes16 (x % 65536)) ≡ sets l i (bytes32 x)
 halves-stored l i x =
-    ap (λ (k : ℕ). sets (sets l i (bytes16 (x / 65536))) (i + k) (bytes16 (x % 65536))) (sym (length-bytes16 (x / 65536)))
+    ap (λ (k : ℕ). sets (sets l i (bytes16 (x / 65536))) (i + k) (bytes16 (x % 65536)))
+    (sym (length-bytes16 (x / 65536)))
     ∙ sets-append l i (bytes16 (x / 65536)) (bytes16 (x % 65536))
     ∙ ap (sets l i) (sym (bytes32-halves x))
 

@@ -27,11 +27,12 @@ pub eight-append : (a b : List ℕ) → EightBits a → EightBits b → EightBit
 eight-append [] b v w = w
 eight-append (x ∷ a) b v w = eight-more x (a ++ b) (v 0) (eight-append a b (λ i. v (suc i)) w)
 
--- the bytes of a number
+-- The bytes of a number below 2^16 are eight bits wide. [icc]
 pub eight-bytes16 : (x : ℕ) → x < 65536 → EightBits (bytes16 x)
 unfolding bytes16
 eight-bytes16 x h = eight-more (x / 256) (x % 256 ∷ []) (omega arith) (eight-more (x % 256) [] (omega arith) eight-none)
 
+-- The bytes of a number below 2^32 are eight bits wide. [icc]
 pub eight-bytes32 : (x : ℕ) → x < 0x1_0000_0000 → EightBits (bytes32 x)
 eight-bytes32 x h =
     rw (bytes32-halves x)
@@ -39,7 +40,8 @@ eight-bytes32 x h =
     (eight-bytes16 (x / 65536) (omega arith))
     (eight-bytes16 (x % 65536) (omega arith)))
 
--- of each number in turn, if those of every one below a limit are, and every number is below it
+-- The bytes of numbers in turn are eight bits wide, if those of every number below a limit are, and all are below it.
+-- [icc]
 pub eight-words : (bytes : ℕ → List ℕ) (limit : ℕ) → ((x : ℕ) → x < limit → EightBits (bytes x))
     → (l : List ℕ) → ((i : ℕ) → getD l i 0 < limit) → EightBits (inTurn bytes l)
 unfolding inTurn
@@ -47,7 +49,7 @@ eight-words bytes limit each [] w = eight-none
 eight-words bytes limit each (x ∷ l) w =
     eight-append (bytes x) (inTurn bytes l) (each x (w 0)) (eight-words bytes limit each l (λ i. w (suc i)))
 
--- and of an opening
+-- So are the bytes of an opening.
 pub eight-opening : (s : ℕ) → s < 0x1_0000_0000 → EightBits (opening s)
 eight-opening s h = eight-append (bytes32 s) (bytes32 0) (eight-bytes32 s h) (eight-bytes32 0 (lit< tt))
 
@@ -56,6 +58,7 @@ abbrev pub eightBits : List ℕ → Bool
 eightBits [] = true
 eightBits (x ∷ l) = both (ltb x 256) (eightBits l)
 
+-- A list that passes the test is eight bits wide. [icc]
 pub eight-tested : (l : List ℕ) → eightBits l ≡ true → EightBits l
 eight-tested [] e = eight-none
 eight-tested (x ∷ l) e =

@@ -1,8 +1,10 @@
--- Where a NaN cannot arise: of a rounded fraction, and of numbers that are not too large; and when a quotient is one.
+-- Where a NaN cannot arise: rounding a fraction, and numbers that are not too large. And when a quotient is one.
 -- Assumes nothing.
 use mathlib.Core.Path.{_≡_, refl, sym, ap, ap₂, _∙_, subst}
 use Prim.Native.Nat.{ℕ, zero, suc, _+_, _-_, _*_, _%_, _^_, _≤_, _<_}
-use native.Mathlib.Nat.{le-refl, le-trans, le-of-eq, lt-irrefl, zero-lt-suc, zero-mul, add-le-add, add-mul, mul-one, mul-comm, mul-assoc, mul-right-comm, mul-mul-mul-comm, mul-le-mul, mul-le-mul-right, mul-pos, le-of-mul-le-mul-right}
+use native.Mathlib.Nat.{le-refl, le-trans, le-of-eq, lt-irrefl, zero-lt-suc, zero-mul, add-le-add, add-mul, mul-one}
+use native.Mathlib.Nat.{mul-comm, mul-assoc, mul-right-comm, mul-mul-mul-comm, mul-le-mul, mul-le-mul-right, mul-pos}
+use native.Mathlib.Nat.{le-of-mul-le-mul-right}
 use native.Mathlib.Omega.{arith}
 use mathlib.Core.Bool.{Bool, true, false, not, _&&_, _||_, Bool·beq, cond, true≢false}
 use lib.IntN.{ℤ, pos}
@@ -46,7 +48,8 @@ bits-nan binary32 = refl
 bits-nan binary64 = refl
 
 pub nan-pattern : (f : Format) (b : ℕ) → ones f * hid f < b % top f → ofBits f b ≡ nan
-nan-pattern f b h = is-nan (ofBits f b) (sym (nanBits-is f b) ∙ nanBits-above f b ∙ lt-ltb (ones f * hid f) (b % top f) h)
+nan-pattern f b h =
+    is-nan (ofBits f b) (sym (nanBits-is f b) ∙ nanBits-above f b ∙ lt-ltb (ones f * hid f) (b % top f) h)
 
 -- ---- a rounded fraction is a number or an infinity
 odd-no-nan : (d : ℕ) (s : Bool) (q k l : ℕ) → isNan (odd d s q k l) ≡ false

@@ -1,7 +1,8 @@
 -- Each operation on values that are known as fractions is one rounding of a fraction. Assumes nothing.
 use mathlib.Core.Path.{_≡_, refl, sym, ap, ap₂, _∙_, subst}
 use Prim.Native.Nat.{ℕ, _+_, _-_, _*_, _≤_, _<_}
-use native.Mathlib.Nat.{lt-irrefl, zero-mul, mul-comm, mul-assoc, mul-left-comm, mul-pos, mul-mul-mul-comm, mul-sub, add-mul}
+use native.Mathlib.Nat.{lt-irrefl, zero-mul, mul-comm, mul-assoc, mul-left-comm, mul-pos, mul-mul-mul-comm, mul-sub}
+use native.Mathlib.Nat.{add-mul}
 use native.Mathlib.Omega.{arith}
 use mathlib.Core.Bool.{Bool, true, false, not, _&&_, cond}
 use lib.Dec.{T, eqb, ltb, eqb→eq, not-T}
@@ -18,7 +19,8 @@ pub sign-kept : (s : Bool) → unlike s false ≡ s
 sign-kept true = refl
 sign-kept false = refl
 
-pub mul-of : (f : Format) (x y : Float) (s t : Bool) (a c b d : ℕ) → 0 < c → 0 < d → HasValue x s a c → HasValue y t b d → mul f x y ≡ round f (unlike s t) (a * b) (c * d)
+pub mul-of : (f : Format) (x y : Float) (s t : Bool) (a c b d : ℕ) → 0 < c → 0 < d → HasValue x s a c → HasValue y t b d
+    → mul f x y ≡ round f (unlike s t) (a * b) (c * d)
 unfolding mul
 mul-of f nan y s t a c b d C D h k = absurd h
 mul-of f (inf u) y s t a c b d C D h k = absurd h
@@ -26,8 +28,10 @@ mul-of f (fin u m e) nan s t a c b d C D h k = absurd k
 mul-of f (fin u m e) (inf v) s t a c b d C D h k = absurd k
 mul-of f (fin u m e) (fin v n g) s t a c b d C D h k =
     ap₂ (λ (p q : Bool). round f (unlike p q) (m * up e * (n * up g)) (down e * down g)) (h .0) (k .0)
-    ∙ round-same f (unlike s t) (m * up e * (n * up g)) (down e * down g) (a * b) (c * d) (mul-pos (down-pos e) (down-pos g)) (mul-pos C D)
-    (mul-mul-mul-comm (m * up e) (n * up g) c d ∙ ap₂ (λ (p q : ℕ). p * q) (h .1) (k .1) ∙ mul-mul-mul-comm a (down e) b (down g))
+    ∙ round-same f (unlike s t) (m * up e * (n * up g)) (down e * down g)
+    (a * b) (c * d) (mul-pos (down-pos e) (down-pos g)) (mul-pos C D)
+    (mul-mul-mul-comm (m * up e) (n * up g) c d ∙ ap₂ (λ (p q : ℕ). p * q) (h .1) (k .1)
+    ∙ mul-mul-mul-comm a (down e) b (down g))
 
 cross : (x i y j a c b d : ℕ) → x * c ≡ a * i → y * d ≡ b * j → x * j * (b * c) ≡ a * d * (y * i)
 cross x i y j a c b d h k =
@@ -35,21 +39,26 @@ cross x i y j a c b d h k =
     let q : a * i * (y * d) ≡ a * d * (y * i) = simp (mul-assoc, mul-comm, mul-left-comm) in
     p ∙ ap₂ (λ (u v : ℕ). u * v) h (sym k) ∙ q
 
-pub div-of : (f : Format) (x y : Float) (s t : Bool) (a c b d : ℕ) → 0 < c → 0 < d → 0 < b → HasValue x s a c → HasValue y t b d → div f x y ≡ round f (unlike s t) (a * d) (b * c)
+pub div-of : (f : Format) (x y : Float) (s t : Bool) (a c b d : ℕ) → 0 < c → 0 < d → 0 < b → HasValue x s a c
+    → HasValue y t b d → div f x y ≡ round f (unlike s t) (a * d) (b * c)
 unfolding div
 div-of f nan y s t a c b d C D B h k = absurd h
 div-of f (inf u) y s t a c b d C D B h k = absurd h
 div-of f (fin u m e) nan s t a c b d C D B h k = absurd k
 div-of f (fin u m e) (inf v) s t a c b d C D B h k = absurd k
 div-of f (fin u m e) (fin v n g) s t a c b d C D B h k =
-    cond-no (eqb n 0) (cond (eqb m 0) nan (inf (unlike u v))) (round f (unlike u v) (m * up e * down g) (n * up g * down e)) (not-T (eqb n 0) (λ (z : T (eqb n 0)). not-zero (eqb→eq n 0 z)))
+    cond-no (eqb n 0) (cond (eqb m 0) nan (inf (unlike u v)))
+    (round f (unlike u v) (m * up e * down g) (n * up g * down e))
+    (not-T (eqb n 0) (λ (z : T (eqb n 0)). not-zero (eqb→eq n 0 z)))
     ∙ ap₂ (λ (p q : Bool). round f (unlike p q) (m * up e * down g) (n * up g * down e)) (h .0) (k .0)
-    ∙ round-same f (unlike s t) (m * up e * down g) (n * up g * down e) (a * d) (b * c) (mul-pos (mul-pos (positive n not-zero) (up-pos g)) (down-pos e)) (mul-pos B C)
+    ∙ round-same f (unlike s t) (m * up e * down g) (n * up g * down e)
+    (a * d) (b * c) (mul-pos (mul-pos (positive n not-zero) (up-pos g)) (down-pos e)) (mul-pos B C)
     (cross (m * up e) (down e) (n * up g) (down g) a c b d (h .1) (k .1))
   where
     not-zero : n ≡ 0 → ⊥
     not-zero z =
-        lt-irrefl 0 (subst (λ (x : ℕ). 0 < x) (sym (k .1) ∙ ap (λ (y : ℕ). y * up g * d) z ∙ ap (λ (y : ℕ). y * d) (zero-mul (up g)) ∙ zero-mul d) (mul-pos B (down-pos g)))
+        lt-irrefl 0 (subst (λ (x : ℕ). 0 < x) (sym (k .1) ∙ ap (λ (y : ℕ). y * up g * d) z
+        ∙ ap (λ (y : ℕ). y * d) (zero-mul (up g)) ∙ zero-mul d) (mul-pos B (down-pos g)))
 
     positive : (n : ℕ) → (n ≡ 0 → ⊥) → 0 < n
     positive n z = omega arith
@@ -65,7 +74,8 @@ together x i y j a c b d h k =
     ∙ sym (add-mul (a * d) (b * c) (i * j))
 
 -- two numbers of one sign
-pub add-of : (f : Format) (x y : Float) (s : Bool) (a c b d : ℕ) → 0 < c → 0 < d → HasValue x s a c → HasValue y s b d → add f x y ≡ round f s (a * d + b * c) (c * d)
+pub add-of : (f : Format) (x y : Float) (s : Bool) (a c b d : ℕ) → 0 < c → 0 < d → HasValue x s a c → HasValue y s b d
+    → add f x y ≡ round f s (a * d + b * c) (c * d)
 unfolding add sum
 add-of f nan y s a c b d C D h k = absurd h
 add-of f (inf u) y s a c b d C D h k = absurd h
@@ -74,7 +84,8 @@ add-of f (fin u m e) (inf v) s a c b d C D h k = absurd k
 add-of f (fin u m e) (fin v n g) s a c b d C D h k =
     ap₂ (λ (p q : Bool). sum f p (m * up e * down g) q (n * up g * down e) (down e * down g)) (h .0) (k .0)
     ∙ one-sign s (m * up e * down g) (n * up g * down e) (down e * down g)
-    ∙ round-same f s (m * up e * down g + n * up g * down e) (down e * down g) (a * d + b * c) (c * d) (mul-pos (down-pos e) (down-pos g)) (mul-pos C D)
+    ∙ round-same f s (m * up e * down g + n * up g * down e) (down e * down g)
+    (a * d + b * c) (c * d) (mul-pos (down-pos e) (down-pos g)) (mul-pos C D)
     (together (m * up e) (down e) (n * up g) (down g) a c b d (h .1) (k .1))
   where
     one-sign : (s : Bool) (a b c : ℕ) → sum f s a s b c ≡ round f s (a + b) c
@@ -128,8 +139,10 @@ sub-of f (fin u m e) (fin v n g) s a c b d C D h k l =
         round-same f t (x - y) z (a * d - b * c) (c * d) (mul-pos (down-pos e) (down-pos g)) (mul-pos C D)
         (apart (m * up e) (down e) (n * up g) (down g) a c b d (h .1) (k .1))
 
-    one-sign : (s : Bool) → (t : Bool) × (s ≡ false → t ≡ false) × (sum f s x (not s) y z ≡ round f t (a * d - b * c) (c * d))
-    one-sign s = (s && ltb y x, (λ q. ap (λ (p : Bool). p && ltb y x) q), minus-sum f s x y z less ∙ scaled (s && ltb y x))
+    one-sign : (s : Bool)
+        → (t : Bool) × (s ≡ false → t ≡ false) × (sum f s x (not s) y z ≡ round f t (a * d - b * c) (c * d))
+    one-sign s =
+        (s && ltb y x, (λ q. ap (λ (p : Bool). p && ltb y x) q), minus-sum f s x y z less ∙ scaled (s && ltb y x))
 
 unlike-swap : (s t : Bool) → unlike s t ≡ unlike t s
 unlike-swap true true = refl
@@ -148,4 +161,5 @@ mul-swap f (inf s) (fin t n d) = ap (λ (u : Bool). cond (eqb n 0) nan (inf u)) 
 mul-swap f (fin s m e) nan = refl
 mul-swap f (fin s m e) (inf t) = ap (λ (u : Bool). cond (eqb m 0) nan (inf u)) (unlike-swap s t)
 mul-swap f (fin s m e) (fin t n d) =
-    ap (λ (u : Bool). round f u (m * up e * (n * up d)) (down e * down d)) (unlike-swap s t) ∙ ap₂ (λ (a b : ℕ). round f (unlike t s) a b) (mul-comm (m * up e) (n * up d)) (mul-comm (down e) (down d))
+    ap (λ (u : Bool). round f u (m * up e * (n * up d)) (down e * down d)) (unlike-swap s t)
+    ∙ ap₂ (λ (a b : ℕ). round f (unlike t s) a b) (mul-comm (m * up e) (n * up d)) (mul-comm (down e) (down d))

@@ -1,4 +1,5 @@
--- What a program's tests and constants say: `x != x`, the comparisons with 0.0, and the patterns of 0.0 and 1.0. Assumes nothing.
+-- What a program's tests and constants say: `x != x`, the comparisons with 0.0, and the patterns of 0.0 and 1.0.
+-- Assumes nothing.
 use mathlib.Core.Path.{_≡_, refl, sym, ap, _∙_, subst}
 use Prim.Native.Nat.{ℕ, suc, _+_, _*_, _≤_, _<_}
 use native.Mathlib.Nat.{le-of-lt, le-of-eq, lt-irrefl, not-le-of-lt, zero-lt-suc, zero-mul, mul-pos}
@@ -54,7 +55,9 @@ or-le a b c t = go (ltb a b) (ltb→lt a b) t
 
 pub negative-under : (m : ℕ) (e : ℤ) → T (lt (fin true (suc m) e) nought)
 unfolding lt
-negative-under m e = lt→ltb 0 (suc m * up e * 1 + 0 * down e) (more (suc m * up e * 1) (0 * down e) (mul-pos (mul-pos (zero-lt-suc m) (up-pos e)) (pow-pos 0)))
+negative-under m e =
+    lt→ltb 0 (suc m * up e * 1 + 0 * down e)
+    (more (suc m * up e * 1) (0 * down e) (mul-pos (mul-pos (zero-lt-suc m) (up-pos e)) (pow-pos 0)))
   where
     more : (a b : ℕ) → 0 < a → 0 < a + b
     more a b h = omega arith
@@ -62,10 +65,13 @@ negative-under m e = lt→ltb 0 (suc m * up e * 1 + 0 * down e) (more (suc m * u
 pub negative-not-over : (m : ℕ) (e : ℤ) → T (le nought (fin true (suc m) e)) → ⊥
 unfolding le
 negative-not-over m e t =
-    let z : 0 * down e ≡ suc m * up e * 1 = eqb→eq (0 * down e) (suc m * up e * 1) (and-l (eqb (0 * down e) (suc m * up e * 1)) (false || eqb (0 * down e) 0) t) in
-    lt-irrefl 0 (subst (λ (y : ℕ). 0 < y) (sym z ∙ zero-mul (down e)) (mul-pos (mul-pos (zero-lt-suc m) (up-pos e)) (pow-pos 0)))
+    let z : 0 * down e ≡ suc m * up e * 1 = eqb→eq (0 * down e)
+    (suc m * up e * 1) (and-l (eqb (0 * down e) (suc m * up e * 1)) (false || eqb (0 * down e) 0) t) in
+    lt-irrefl 0
+    (subst (λ (y : ℕ). 0 < y) (sym z ∙ zero-mul (down e)) (mul-pos (mul-pos (zero-lt-suc m) (up-pos e)) (pow-pos 0)))
 
 pub positive-not-under : (m : ℕ) (e : ℤ) → T (le (fin false (suc m) e) nought) → ⊥
 unfolding le
 positive-not-under m e t =
-    not-le-of-lt (mul-pos (mul-pos (zero-lt-suc m) (up-pos e)) (pow-pos 0)) (subst (λ (z : ℕ). suc m * up e * 1 ≤ z) (zero-mul (down e)) (or-le (suc m * up e * 1) (0 * down e) true t))
+    not-le-of-lt (mul-pos (mul-pos (zero-lt-suc m) (up-pos e)) (pow-pos 0))
+    (subst (λ (z : ℕ). suc m * up e * 1 ≤ z) (zero-mul (down e)) (or-le (suc m * up e * 1) (0 * down e) true t))

@@ -8,7 +8,8 @@ use Rattle.table.proofs.Refusals.{same-refusal, number-above}
 use Rattle.interp.specs.declared.Interpolated.{Interpolated}
 use Rattle.interp.specs.Promises.{numberOfInterpolated, valueOfInterpolated, FloatPromise, LinearPromise}
 
-same-interpolated : (r s : Interpolated) → numberOfInterpolated r ≡ numberOfInterpolated s → valueOfInterpolated r ≡ valueOfInterpolated s → r ≡ s
+same-interpolated : (r s : Interpolated) → numberOfInterpolated r ≡ numberOfInterpolated s
+    → valueOfInterpolated r ≡ valueOfInterpolated s → r ≡ s
 same-interpolated (Interpolated.Value a) (Interpolated.Value b) e v = ap Interpolated.Value v
 same-interpolated (Interpolated.Value a) (Interpolated.Refused b) e v = absurd (omega (arith, number-above b))
 same-interpolated (Interpolated.Refused a) (Interpolated.Value b) e v = absurd (omega (arith, number-above a))

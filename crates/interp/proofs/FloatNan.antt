@@ -1,11 +1,12 @@
--- `lut_interp_linear_float` answers a NaN only where, of the two entries about x, the upper one is a NaN or an
--- infinity, or the lower one a NaN. Assumes nothing.
+-- `lut_interp_linear_float` answers a NaN only if, of the two entries about x, the upper is a NaN or an infinity, or
+-- the lower a NaN. Assumes nothing.
 use mathlib.Core.Path.{_≡_, refl, sym, ap, ap₂, _∙_, subst}
 use mathlib.Core.Bool.{Bool, true, false, _&&_}
 use mathlib.Core.List.{List}
 use mathlib.Core.Logic.{⊎-elim}
 use Prim.Native.Nat.{ℕ, zero, suc, _+_, _-_, _*_, _%_, _^_, _≤_, _<_}
-use native.Mathlib.Nat.{le-trans, le-of-eq, eq-zero-or-pos, zero-mul, one-mul, mul-one, mul-assoc, mul-right-comm, mul-pos, mul-le-mul-left, mul-le-mul-right, sub-le, sub-zero}
+use native.Mathlib.Nat.{le-trans, le-of-eq, eq-zero-or-pos, zero-mul, one-mul, mul-one, mul-assoc, mul-right-comm}
+use native.Mathlib.Nat.{mul-pos, mul-le-mul-left, mul-le-mul-right, sub-le, sub-zero}
 use native.Mathlib.Omega.{arith}
 use lib.ListN.{length, getD}
 use lib.IntN.{ℤ}
@@ -221,7 +222,8 @@ nought-no-nan : isNan nought ≡ false
 unfolding isNan
 nought-no-nan = refl
 
--- granted or refused; any f32 fits
+-- The answer, granted or refused, is no NaN where the upper entry is finite and the lower one no NaN. Any f32 fits.
+-- [interp::lut_interp_linear_float]
 pub float-no-nan : {t : List Float} {x : Float} {r : Interpolated} → T (fits binary32 (upper t x)) → FloatPromise t x r
     → T (finite (upper t x)) → (lower t x ≡ nan → ⊥) → valueOfInterpolated r ≡ nan → ⊥
 float-no-nan {t} {x} {r} F p N L =

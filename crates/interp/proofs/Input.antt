@@ -1,4 +1,4 @@
--- An input read as a number from 0 to 1, and an input that is refused for not being one. Assumes nothing.
+-- An input read as a number from 0 to 1, and an input that is refused because it is none. Assumes nothing.
 use mathlib.Core.Path.{_≡_, refl, sym, ap, ap₂, _∙_, subst}
 use mathlib.Core.Bool.{Bool, true, false, _||_, cond}
 use lib.Dec.{T}
@@ -32,13 +32,15 @@ module _ (x r : Float) (p : MinPromise x (ofBits binary32 1065353216) r) where
   pub unit-low : lt r (ofBits binary32 0) ≡ true → ofBits binary32 0 ≡ unit x
   unit-low h =
       bits-nought binary32
-      ∙ ap (λ (t : Bool). pick t nought (minimum x one)) (sym (ap₂ lt (sym is-minimum) (sym (bits-nought binary32)) ∙ h))
+      ∙ ap (λ (t : Bool). pick t nought (minimum x one))
+      (sym (ap₂ lt (sym is-minimum) (sym (bits-nought binary32)) ∙ h))
       ∙ from-minimum x
 
   pub unit-kept : lt r (ofBits binary32 0) ≡ false → r ≡ unit x
   unit-kept h =
       is-minimum
-      ∙ ap (λ (t : Bool). pick t nought (minimum x one)) (sym (ap₂ lt (sym is-minimum) (sym (bits-nought binary32)) ∙ h))
+      ∙ ap (λ (t : Bool). pick t nought (minimum x one))
+      (sym (ap₂ lt (sym is-minimum) (sym (bits-nought binary32)) ∙ h))
       ∙ from-minimum x
 
 one-upto : T (upto 1 one)
@@ -62,7 +64,8 @@ unit-upto : (x : Float) → T (upto 1 (unit x))
 unfolding unit
 unit-upto x = go (isNan x) (lt one x) (lt x nought) refl refl refl
   where
-    go : (a b c : Bool) → isNan x ≡ a → lt one x ≡ b → lt x nought ≡ c → T (upto 1 (pick (a || b) one (pick c nought x)))
+    go : (a b c : Bool) → isNan x ≡ a → lt one x ≡ b → lt x nought ≡ c
+        → T (upto 1 (pick (a || b) one (pick c nought x)))
     go true b c p q r = one-upto
     go false true c p q r = one-upto
     go false false true p q r = nought-upto
@@ -79,10 +82,14 @@ module _ (x : Float) where
 
   pub outside-low : ne x x ≡ false → lt x (ofBits binary64 0) ≡ true → true ≡ outsideUnit x
   unfolding outsideUnit
-  outside-low h k = sym (ap₂ (λ (a b : Bool). a || (b || lt one x)) (differs-is-nan x false h) (ap (lt x) (sym (bits-nought binary64)) ∙ k))
+  outside-low h k =
+      sym (ap₂ (λ (a b : Bool). a || (b || lt one x)) (differs-is-nan x false h)
+      (ap (lt x) (sym (bits-nought binary64)) ∙ k))
 
-  pub outside-high : ne x x ≡ false → lt x (ofBits binary64 0) ≡ false → lt (ofBits binary64 4607182418800017408) x ≡ outsideUnit x
+  pub outside-high : ne x x ≡ false → lt x (ofBits binary64 0) ≡ false
+      → lt (ofBits binary64 4607182418800017408) x ≡ outsideUnit x
   unfolding outsideUnit
   outside-high h k =
       ap (λ (z : Float). lt z x) (bits-one binary64)
-      ∙ sym (ap₂ (λ (a b : Bool). a || (b || lt one x)) (differs-is-nan x false h) (ap (lt x) (sym (bits-nought binary64)) ∙ k))
+      ∙ sym (ap₂ (λ (a b : Bool). a || (b || lt one x)) (differs-is-nan x false h)
+      (ap (lt x) (sym (bits-nought binary64)) ∙ k))

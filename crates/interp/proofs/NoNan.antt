@@ -1,5 +1,5 @@
--- `lut_interp_linear` never answers a NaN, whatever it is asked: each step's numbers are finite, by bounds that need
--- not be close. Assumes nothing.
+-- `lut_interp_linear` never answers a NaN, whatever it is asked: the numbers of each step are finite, by bounds that
+-- need not be close. Assumes nothing.
 use mathlib.Core.Path.{_≡_, refl, _∙_, ap}
 use mathlib.Core.Bool.{Bool, true, false}
 use mathlib.Core.List.{List}
@@ -16,7 +16,8 @@ use Rattle.table.specs.Sizes.{sized, notAbove}
 use Rattle.table.specs.Refusals.{ifGranted}
 use Rattle.ieee.specs.Range.{nought, one, floatIn, float, upto}
 use Rattle.ieee.proofs.Range.{upto-fact}
-use Rattle.ieee.proofs.NoNan.{no-nan, times-no-nan, Bounded, bounded-no-nan, bounded-more, upto-bounded, whole-bounded, mul-bounded, add-bounded, sub-bounded}
+use Rattle.ieee.proofs.NoNan.{no-nan, times-no-nan, Bounded, bounded-no-nan, bounded-more, upto-bounded, whole-bounded}
+use Rattle.ieee.proofs.NoNan.{mul-bounded, add-bounded, sub-bounded}
 use Rattle.rounding.specs.Cut.{floor, ceil}
 use Rattle.rounding.specs.Nearest.{narrow}
 use Rattle.rounding.proofs.Cut.{ceil-upto}
@@ -93,7 +94,7 @@ nought-no-nan : isNan nought ≡ false
 unfolding isNan
 nought-no-nan = refl
 
--- granted or refused
+-- The answer, granted or refused, is no NaN. [interp::lut_interp_linear]
 pub linear-no-nan : {t : List ℕ} {x : Float} {r : Interpolated} → SixteenBits t → LinearPromise t x r
     → valueOfInterpolated r ≡ nan → ⊥
 linear-no-nan {t} {x} {r} bits p =

@@ -1,4 +1,5 @@
--- Where a lookup at y, from 0 to 1, lands in a table of n entries: between two of them. Stated once over the format. Assumes nothing.
+-- Where a lookup at y, from 0 to 1, lands in a table of n entries: between two of them. Stated once over the format.
+-- Assumes nothing.
 use mathlib.Core.Path.{_≡_, sym, subst}
 use mathlib.Core.Bool.{true}
 use Prim.Native.Nat.{ℕ, _-_, _≤_, _<_}

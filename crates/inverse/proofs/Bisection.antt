@@ -1,5 +1,5 @@
--- The search as a loop: that r - l probes are always enough, so that each turn is an equation without them; that every probe is a position; and what a hit
--- and a miss tell. Assumes nothing.
+-- The search as a loop. r - l probes are always enough, so each turn is an equation that does not count them; every
+-- probe is a position; and what a hit and a miss tell. Assumes nothing.
 use mathlib.Core.Path.{_≡_, _∙_, refl, sym, subst}
 use mathlib.Core.Logic.{⊎-elim}
 use mathlib.Core.List.{List}
@@ -30,10 +30,12 @@ turn t v l r = ⊎-elim on (λ h. over h) (below? l r)
   where
     on : l < r → Turn t v l r
     on h =
-        ⊎-elim (λ b. right h b) (λ b. ⊎-elim (λ a. left h a) (λ a. hit h (omega arith)) (below? v (lookedUp t (middle l r - 1))))
+        ⊎-elim (λ b. right h b)
+        (λ b. ⊎-elim (λ a. left h a) (λ a. hit h (omega arith)) (below? v (lookedUp t (middle l r - 1))))
         (below? (lookedUp t (middle l r - 1)) v)
 
--- what the search finds is worth something: a hit is a position that looks up as the value, and an x that was probed last is from 1 to 65535
+-- what the search finds is worth something: a hit is a position that looks up as the value, and an x that was probed
+-- last is from 1 to 65535
 abbrev pub Sound : List ℕ → ℕ → Found → Type 0
 Sound t v (Hit p) = (lookedUp t p ≡ v) × (p ≤ 65534)
 Sound t v (Missed x) = (1 ≤ x) × (x ≤ 65535)
@@ -45,25 +47,38 @@ module _ (t : List ℕ) (v : ℕ) where
   search-over zero l r last h = refl
   search-over (suc fuel) l r last h = simp (le-ltb l r h)
 
-  search-hit : (fuel l r last : ℕ) → l < r → lookedUp t (middle l r - 1) ≡ v → search (suc fuel) t v l r last ≡ Hit (middle l r - 1)
+  search-hit : (fuel l r last : ℕ) → l < r → lookedUp t (middle l r - 1) ≡ v
+      → search (suc fuel) t v l r last ≡ Hit (middle l r - 1)
   unfolding search
   search-hit fuel l r last h e = simp (lt-ltb l r h, eq-eqb (lookedUp t (middle l r - 1)) v e)
 
-  search-above : (fuel l r last : ℕ) → l < r → v < lookedUp t (middle l r - 1) → search (suc fuel) t v l r last ≡ search fuel t v l (middle l r - 1) (middle l r)
+  search-above : (fuel l r last : ℕ) → l < r → v < lookedUp t (middle l r - 1)
+      → search (suc fuel) t v l r last ≡ search fuel t v l (middle l r - 1) (middle l r)
   unfolding search
   search-above fuel l r last h k =
-      simp (lt-ltb l r h, ne-eqb (lookedUp t (middle l r - 1)) v (omega arith), lt-ltb v (lookedUp t (middle l r - 1)) k)
+      simp (
+        lt-ltb l r h,
+        ne-eqb (lookedUp t (middle l r - 1)) v (omega arith),
+        lt-ltb v (lookedUp t (middle l r - 1)) k,
+      )
 
-  search-below : (fuel l r last : ℕ) → l < r → lookedUp t (middle l r - 1) < v → search (suc fuel) t v l r last ≡ search fuel t v (middle l r + 1) r (middle l r)
+  search-below : (fuel l r last : ℕ) → l < r → lookedUp t (middle l r - 1) < v
+      → search (suc fuel) t v l r last ≡ search fuel t v (middle l r + 1) r (middle l r)
   unfolding search
   search-below fuel l r last h k =
       let le : lookedUp t (middle l r - 1) ≤ v = omega arith in
-      simp (lt-ltb l r h, ne-eqb (lookedUp t (middle l r - 1)) v (omega arith), le-ltb v (lookedUp t (middle l r - 1)) le)
+      simp (
+        lt-ltb l r h,
+        ne-eqb (lookedUp t (middle l r - 1)) v (omega arith),
+        le-ltb v (lookedUp t (middle l r - 1)) le,
+      )
 
-  -- r - l probes are enough: any two numbers of them from there on come to the same
+  -- The bound on the probes is never met: with r - l of them or more the search comes to the same.
+  -- [inverse::lut_inverse_interp16]
   pub fuel-enough : (f g l r last : ℕ) → r - l ≤ f → r - l ≤ g → search f t v l r last ≡ search g t v l r last
   fuel-enough zero g l r last F G = search-over zero l r last (omega arith) ∙ sym (search-over g l r last (omega arith))
-  fuel-enough (suc f) zero l r last F G = search-over (suc f) l r last (omega arith) ∙ sym (search-over zero l r last (omega arith))
+  fuel-enough (suc f) zero l r last F G =
+      search-over (suc f) l r last (omega arith) ∙ sym (search-over zero l r last (omega arith))
   fuel-enough (suc f) (suc g) l r last F G = elim (turn t v l r) [
     | over h ↦ search-over (suc f) l r last h ∙ sym (search-over (suc g) l r last h)
     | hit h e ↦ search-hit f l r last h e ∙ sym (search-hit g l r last h e)
@@ -99,13 +114,15 @@ module _ (t : List ℕ) (v : ℕ) where
     from-left h a =
         one-more
         ∙ search-above (r - l) l r last h a
-        ∙ fuel-enough (r - l) (middle l r - 1 - l) l (middle l r - 1) (middle l r) (omega arith) (le-refl (middle l r - 1 - l))
+        ∙ fuel-enough (r - l) (middle l r - 1 - l) l (middle l r - 1) (middle l r) (omega arith)
+        (le-refl (middle l r - 1 - l))
 
     pub from-right : l < r → lookedUp t (middle l r - 1) < v → from l r last ≡ from (middle l r + 1) r (middle l r)
     from-right h b =
         one-more
         ∙ search-below (r - l) l r last h b
-        ∙ fuel-enough (r - l) (r - (middle l r + 1)) (middle l r + 1) r (middle l r) (omega arith) (le-refl (r - (middle l r + 1)))
+        ∙ fuel-enough (r - l) (r - (middle l r + 1)) (middle l r + 1) r (middle l r) (omega arith)
+        (le-refl (r - (middle l r + 1)))
 
   -- ---- every x that is probed is from 1 to 65535
   pub probe-low : (l r : ℕ) → Ready t v l r → l ≤ r → 1 ≤ middle l r
@@ -118,7 +135,9 @@ module _ (t : List ℕ) (v : ℕ) where
   pub ready-left : (l r : ℕ) → Ready t v l r → l < r → v < lookedUp t (middle l r - 1) → Ready t v l (middle l r - 1)
   ready-left l r s h a = record {
     high = omega (arith, probe-high l r s h);
-    apart = λ (e : l ≡ 0). ⊎-elim (λ (k : middle l r - 1 < 2). absurd (omega (arith, s .under e (middle l r - 1) k))) (λ k. k) (below? (middle l r - 1) 2);
+    apart =
+        λ (e : l ≡ 0). ⊎-elim (λ (k : middle l r - 1 < 2).
+        absurd (omega (arith, s .under e (middle l r - 1) k))) (λ k. k) (below? (middle l r - 1) 2);
     under = s .under;
   }
 
@@ -130,21 +149,25 @@ module _ (t : List ℕ) (v : ℕ) where
   }
 
   -- ---- what comes out, k being no less than the probes that are left
-  from-sound : (k l r last : ℕ) → r - l ≤ k → Ready t v l r → (r ≤ l → (1 ≤ last) × (last ≤ 65535)) → Sound t v (from l r last)
+  from-sound : (k l r last : ℕ) → r - l ≤ k → Ready t v l r → (r ≤ l → (1 ≤ last) × (last ≤ 65535))
+      → Sound t v (from l r last)
   from-sound zero l r last n s w = subst (Sound t v) (sym (from-over l r last (omega arith))) (w (omega arith))
   from-sound (suc k) l r last n s w = elim (turn t v l r) [
     | over h ↦ subst (Sound t v) (sym (from-over l r last h)) (w h)
     | hit h e ↦ subst (Sound t v) (sym (from-hit l r last h e)) (e, omega (arith, probe-high l r s h))
     | left h a ↦
         subst (Sound t v) (sym (from-left l r last h a))
-        (from-sound k l (middle l r - 1) (middle l r) (omega arith) (ready-left l r s h a) (λ _. (probe-low l r s (omega arith), probe-high l r s h)))
+        (from-sound k l (middle l r - 1) (middle l r) (omega arith) (ready-left l r s h a)
+        (λ _. (probe-low l r s (omega arith), probe-high l r s h)))
     | right h b ↦
         subst (Sound t v) (sym (from-right l r last h b))
-        (from-sound k (middle l r + 1) r (middle l r) (omega arith) (ready-right l r s h) (λ _. (probe-low l r s (omega arith), probe-high l r s h)))
+        (from-sound k (middle l r + 1) r (middle l r) (omega arith) (ready-right l r s h)
+        (λ _. (probe-low l r s (omega arith), probe-high l r s h)))
   ]
 
   pub searched-sound : (l r : ℕ) → Ready t v l r → l < r → Sound t v (searched t v l r)
-  searched-sound l r s h = subst (Sound t v) (from-start l r) (from-sound (r - l) l r 0 (le-refl (r - l)) s (λ k. absurd (omega arith)))
+  searched-sound l r s h =
+      subst (Sound t v) (from-start l r) (from-sound (r - l) l r 0 (le-refl (r - l)) s (λ k. absurd (omega arith)))
 
   -- a hit needs a probe
   pub hit-apart : (l r p : ℕ) → searched t v l r ≡ Hit p → l < r

@@ -1,4 +1,5 @@
--- The inverse as a whole: what each way to its answer gives, that every probe of its search is a position, and what a hit is worth. Assumes nothing.
+-- The inverse as a whole: what each way to its answer gives, that every probe of its search is a position, and what a
+-- hit is worth. Assumes nothing.
 use mathlib.Core.Path.{_≡_, _∙_, refl, sym, ap, subst}
 use mathlib.Core.Bool.{Bool, true, false}
 use mathlib.Core.List.{List}
@@ -33,11 +34,14 @@ pub record Begun (t : List ℕ) (z w l r : ℕ) : Type 0 where
   pub right : r ≡ firstRight (length t) w
 
 -- where l comes from leading zeros, positions up to l + 1 lie among them, and look up as 0
-pub zero-below : (t : List ℕ) → length t ≤ 65536 → 1 < leadingZeros t → (p : ℕ) → p ≤ firstLeft (length t) (leadingZeros t) + 1 → lookedUp t p ≤ 0
+pub zero-below : (t : List ℕ) → length t ≤ 65536 → 1 < leadingZeros t → (p : ℕ)
+    → p ≤ firstLeft (length t) (leadingZeros t) + 1 → lookedUp t p ≤ 0
 zero-below t few some p h =
     lookup-at-most (entriesOf t) (length t) p 0
-    (le-of-eq (zero-entry t (lower 65535 (steps (length t) p)) (lower-lt 65535 z (steps (length t) p) (lit< tt) z>0 within)))
-    (le-of-eq (zero-entry t (upper 65535 (steps (length t) p)) (upper-lt 65535 z (steps (length t) p) (lit< tt) z>0 within)))
+    (le-of-eq (zero-entry t (lower 65535 (steps (length t) p))
+    (lower-lt 65535 z (steps (length t) p) (lit< tt) z>0 within)))
+    (le-of-eq (zero-entry t (upper 65535 (steps (length t) p))
+    (upper-lt 65535 z (steps (length t) p) (lit< tt) z>0 within)))
   where
     z : ℕ
     z = leadingZeros t
@@ -48,7 +52,11 @@ zero-below t few some p h =
     within : steps (length t) p ≤ (leadingZeros t - 1) * 65535
     within =
         let q = (leadingZeros t - 1) * 65535 / (length t - 1) in
-        let k : p ≤ q = omega (arith, left-some (length t) (leadingZeros t) some, left-quotient-low (length t) (leadingZeros t) some (zeros-le t) few) in
+        let k : p ≤ q = omega (
+          arith,
+          left-some (length t) (leadingZeros t) some,
+          left-quotient-low (length t) (leadingZeros t) some (zeros-le t) few,
+        ) in
         le-trans (mul-le-mul-right (length t - 1) k) (div-mul-le-self ((leadingZeros t - 1) * 65535) (length t - 1))
 
 module _ {t : List ℕ} {z w l r : ℕ} (b : Begun t z w l r) (h : sized (length t) ≡ true) (v : ℕ) where
@@ -116,14 +124,15 @@ module _ (t : List ℕ) (h : sized (length t) ≡ true) (v : ℕ) where
   sound : leftOf t < rightOf t → Sound t v (searched t v (leftOf t) (rightOf t))
   sound c = searched-sound t v (leftOf t) (rightOf t) (begun-ready (begins t) h v) c
 
-  -- where the search leaves at a hit, the lookup at the answer is the value
-  pub hit-looks-up : (p : ℕ) → zeroAtOnce v (leadingZeros t) (trailingTops t) ≡ false → searched t v (leftOf t) (rightOf t) ≡ Hit p → lookedUp t (inverted t v) ≡ v
+  -- Where the search leaves at a hit, the lookup at the defined answer is the value. [inverse::lut_inverse_interp16]
+  pub hit-looks-up : (p : ℕ) → zeroAtOnce v (leadingZeros t) (trailingTops t) ≡ false
+      → searched t v (leftOf t) (rightOf t) ≡ Hit p → lookedUp t (inverted t v) ≡ v
   hit-looks-up p e s =
       let c : leftOf t < rightOf t = hit-apart t v (leftOf t) (rightOf t) p s in
       let found : Sound t v (Hit p) = subst (Sound t v) s (sound c) in
       ap (lookedUp t) (sym (hit-answer (begins t) h v refl e p c s)) ∙ found .0
 
-  -- 16 bits hold the answer
+  -- 16 bits hold the answer. [inverse::lut_inverse_interp16]
   pub inverted-fits : inverted t v ≤ 65535
   unfolding inverted
   inverted-fits = go (zeroAtOnce v (leadingZeros t) (trailingTops t)) (leb (rightOf t) (leftOf t)) refl
@@ -132,7 +141,8 @@ module _ (t : List ℕ) (h : sized (length t) ≡ true) (v : ℕ) where
       settled-fits (Hit p) s = le-trans (s .1) (lit≤ tt)
       settled-fits (Missed x) s = tail-fits t x v (s .1)
 
-      go : (a b : Bool) → leb (rightOf t) (leftOf t) ≡ b → pick a 0 (pick b 0 (settled t v (searched t v (leftOf t) (rightOf t)))) ≤ 65535
+      go : (a b : Bool) → leb (rightOf t) (leftOf t) ≡ b
+          → pick a 0 (pick b 0 (settled t v (searched t v (leftOf t) (rightOf t)))) ≤ 65535
       go true b e = zero-le
       go false true e = zero-le
       go false false e = settled-fits (searched t v (leftOf t) (rightOf t)) (sound (leb-false (rightOf t) (leftOf t) e))

@@ -15,7 +15,8 @@ use Rattle.inverse.specs.Inverse.{search, searched, inverted}
 
 -- the inverse of each of a list of values
 each : List ℕ → List ℕ → List ℕ
-unfolding inverted searched search firstRight firstLeft zeroAtOnce trailingTops leadingZeros run tail between rounded nodeOf cellOf abs ceil floor lookup16 weighted ofInt round neg add sub mul div lt le
+unfolding inverted searched search firstRight firstLeft zeroAtOnce trailingTops leadingZeros run tail between rounded
+    nodeOf cellOf abs ceil floor lookup16 weighted ofInt round neg add sub mul div lt le
 each t [] = []
 each t (v ∷ l) = inverted t v ∷ each t l
 
@@ -28,8 +29,8 @@ case-11 : each (65535 ∷ 65535 ∷ []) (7 ∷ []) ≡ 0 ∷ []
 unfolding each
 case-11 = refl
 
--- The last candidate, r = l, is not probed. Here it is x = 34407, and x - 1 looks up as the value: probed, it would be
--- a hit, and the answer 34406.
+-- [0, 100, 65535] of 3371 is 34405, and would be 34406 if the last candidate, r = l, were probed. That is x = 34407
+-- here, and x - 1 looks up as the value: probed, it would be a hit. [inverse::lut_inverse_interp16]
 last-not-probed :
     (each (0 ∷ 100 ∷ 65535 ∷ []) (3371 ∷ []) ≡ 34405 ∷ []) × (lookedUp (0 ∷ 100 ∷ 65535 ∷ []) 34406 ≡ 3371)
 unfolding each lookup16 weighted

@@ -39,7 +39,7 @@ module _ (t : List ℕ) where
   unfolding trailingTops
   top-entry i h = sym (getD-reverse t i (omega (arith, tops-le))) ∙ run-equal 65535 (reverse t) i h
 
-  -- no entry is in both runs
+  -- No entry is both a leading zero and a trailing 65535. [inverse_start]
   pub runs-part : leadingZeros t + trailingTops t ≤ length t
   runs-part = ⊎-elim meet (λ h. h) (below? (length t) (leadingZeros t + trailingTops t))
     where

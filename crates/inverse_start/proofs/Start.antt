@@ -1,4 +1,4 @@
--- Where the search begins: l and r by cases, and that a start of l from leading zeros leaves r at least two above it. Assumes nothing.
+-- Where the search begins: l and r by cases. Where leading zeros set l, r is at least two above it. Assumes nothing.
 use mathlib.Core.Path.{_≡_, _∙_, refl, ap}
 use mathlib.Core.Logic.{⊎-elim}
 use Prim.Native.Nat.{ℕ, zero, suc, _+_, _-_, _*_, _/_, _≤_, _<_}
@@ -77,6 +77,7 @@ module _ (n w : ℕ) (some : 1 < w) where
 
 -- ---- together, of runs that do not meet
 module _ (n z w : ℕ) (part : z + w ≤ n) (few : n ≤ 65536) where
+  -- r starts at 65536 at most. [inverse_start]
   pub right-high : firstRight n w ≤ 65536
   right-high = ⊎-elim more (λ h. omega (arith, right-none n w h)) (below? 1 w)
     where
@@ -87,7 +88,7 @@ module _ (n z w : ℕ) (part : z + w ≤ n) (few : n ≤ 65536) where
           (λ d. omega (arith, right-some n w h (omega arith), right-quotient n w h (omega arith)))
           (same? w n)
 
-  -- leading zeros leave r at least two above l
+  -- With two leading zeros or more, r starts at least two above l. [inverse_start]
   pub right-above : 1 < z → firstLeft n z + 2 ≤ firstRight n w
   right-above h = ⊎-elim more none (below? 1 w)
     where
@@ -104,11 +105,12 @@ module _ (n z w : ℕ) (part : z + w ≤ n) (few : n ≤ 65536) where
           let q : (z - 1) * 65535 / (n - 1) ≤ (n - 1 - w) * 65535 / (n - 1) = div-mono p (mul-le-mul-right 65535 m) in
           omega (arith, low, left-some n z h, right-some n w k (omega arith))
 
-  -- l starts at 0 only from leading zeros
+  -- l starts at 0 only with two leading zeros or more. [inverse_start]
   pub left-zero : firstLeft n z ≡ 0 → 1 < z
   left-zero e = ⊎-elim (λ h. h) (λ h. absurd (omega (arith, left-one n z h))) (below? 1 z)
 
-  -- r ≤ l exactly where all but one entry or every entry is a trailing 65535, there are two of them, and l starts at 1
+  -- r ≤ l where two or more 65535s trail, at most one entry is none of them, and at most one zero leads.
+  -- [inverse_start]
   pub no-room : 1 < w → n ≤ w + 1 → z ≤ 1 → firstRight n w ≤ firstLeft n z
   no-room k m h = ⊎-elim all but-one (same? w n)
     where
@@ -121,6 +123,8 @@ module _ (n z w : ℕ) (part : z + w ≤ n) (few : n ≤ 65536) where
           let e : (n - 1 - w) * 65535 / (n - 1) ≡ 0 = ap (λ (a : ℕ). a / (n - 1)) i ∙ zero-div (n - 1) in
           omega (arith, left-one n z h, right-some n w k (omega arith))
 
+  -- r ≤ l only where two or more 65535s trail, at most one entry is none of them, and at most one zero leads.
+  -- [inverse_start]
   pub room-else : firstRight n w ≤ firstLeft n z → (1 < w) × (n ≤ w + 1) × (z ≤ 1)
   room-else h = ⊎-elim (λ k. absurd (omega (arith, right-above k))) (λ k. tops k (some k)) (below? 1 z)
     where
@@ -134,5 +138,6 @@ module _ (n z w : ℕ) (part : z + w ≤ n) (few : n ≤ 65536) where
           far e =
               let p : 0 < n - 1 = omega arith in
               let a : 1 ≤ n - 1 - w = omega arith in
-              let q : 1 ≤ (n - 1 - w) * 65535 / (n - 1) = le-div-iff-mul-le p .1 (omega (arith, mul-le-mul-right 65535 a)) in
+              let q : 1 ≤ (n - 1 - w) * 65535 / (n - 1) =
+              le-div-iff-mul-le p .1 (omega (arith, mul-le-mul-right 65535 a)) in
               absurd (omega (arith, left-one n z k, right-some n w m (omega arith)))

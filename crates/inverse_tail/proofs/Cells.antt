@@ -1,4 +1,5 @@
--- The f64 steps between two cells: each cell lies in the table, and what the program's tests tell of the answer. Assumes nothing.
+-- The f64 steps between two cells: each cell lies in the table, and what the program's tests tell of the answer.
+-- Assumes nothing.
 use mathlib.Core.Path.{_≡_, _∙_, sym, ap, ap₂, subst}
 use mathlib.Core.Bool.{Bool, true, false}
 use mathlib.Core.List.{List}
@@ -35,7 +36,8 @@ module _ (t : List ℕ) (x : ℕ) (some : 1 ≤ length t) (few : length t ≤ 65
       let p : x - 1 ≤ 65535 = omega arith in
       subst (λ (z : Float). T (upto (length t - 1) z))
       (mul-swap binary64 (div binary64 (float (x - 1)) (float 65535)) (float (length t - 1)) ∙ sym place-is)
-      (scaled-upto binary64 (div binary64 (float (x - 1)) (float 65535)) (length t - 1) (ratio-upto binary64 (x - 1) 65535 p (lit< tt) (lit≤ tt)) k)
+      (scaled-upto binary64 (div binary64 (float (x - 1)) (float 65535))
+      (length t - 1) (ratio-upto binary64 (x - 1) 65535 p (lit< tt) (lit≤ tt)) k)
 
   pub place-asks : T (upto 65536 place)
   place-asks =
@@ -68,16 +70,19 @@ module _ (t : List ℕ) (x v c0 c1 : ℕ) where
   node top c = div binary64 (mul binary64 top (float c)) (float (length t - 1))
 
   abbrev slope : Float → Float
-  slope top = div binary64 (sub binary64 (float (getD t c1 0)) (float (getD t c0 0))) (sub binary64 (node top c1) (node top c0))
+  slope top =
+      div binary64 (sub binary64 (float (getD t c1 0)) (float (getD t c0 0))) (sub binary64 (node top c1) (node top c0))
 
   abbrev crossing : Float → Float
   crossing top =
-      div binary64 (sub binary64 (float v) (add binary64 (float (getD t c0 0)) (mul binary64 (neg (slope top)) (node top c0)))) (slope top)
+      div binary64 (sub binary64 (float v)
+      (add binary64 (float (getD t c0 0)) (mul binary64 (neg (slope top)) (node top c0)))) (slope top)
 
   abbrev answer : Float → Float → ℕ
   answer top least = pick (eqb c0 c1) x (pick (lt (abs (slope top)) least) x (rounded (crossing top)))
 
-  answer-is : answer (ofBits binary64 0x40ef_ffe0_0000_0000) (ofBits binary64 0x3f84_7ae1_47ae_147b) ≡ between t x v c0 c1
+  answer-is : answer (ofBits binary64 0x40ef_ffe0_0000_0000) (ofBits binary64 0x3f84_7ae1_47ae_147b)
+      ≡ between t x v c0 c1
   unfolding between nodeOf
   answer-is = ap₂ answer top-bits hundredth-bits
 
@@ -85,7 +90,8 @@ module _ (t : List ℕ) (x v c0 c1 : ℕ) where
   one-cell e = sym (simp (eq-eqb c0 c1 e)) ∙ answer-is
 
   module _ (n : c0 ≡ c1 → ⊥) {size : Float} (s : AbsPromise (slope (ofBits binary64 0x40ef_ffe0_0000_0000)) size) where
-    chosen : (b : Bool) → lt size (ofBits binary64 0x3f84_7ae1_47ae_147b) ≡ b → pick b x (rounded (crossing (ofBits binary64 0x40ef_ffe0_0000_0000))) ≡ between t x v c0 c1
+    chosen : (b : Bool) → lt size (ofBits binary64 0x3f84_7ae1_47ae_147b) ≡ b
+        → pick b x (rounded (crossing (ofBits binary64 0x40ef_ffe0_0000_0000))) ≡ between t x v c0 c1
     chosen b h =
         ap (λ (z : Bool). pick z x (rounded (crossing (ofBits binary64 0x40ef_ffe0_0000_0000))))
         (sym h ∙ ap (λ (z : Float). lt z (ofBits binary64 0x3f84_7ae1_47ae_147b)) (s .value))
@@ -95,10 +101,11 @@ module _ (t : List ℕ) (x v c0 c1 : ℕ) where
     pub nearly-flat : lt size (ofBits binary64 0x3f84_7ae1_47ae_147b) ≡ true → x ≡ between t x v c0 c1
     nearly-flat h = chosen true h
 
-    pub sloped : {r : ℕ} → lt size (ofBits binary64 0x3f84_7ae1_47ae_147b) ≡ false → r ≡ rounded (crossing (ofBits binary64 0x40ef_ffe0_0000_0000)) → r ≡ between t x v c0 c1
+    pub sloped : {r : ℕ} → lt size (ofBits binary64 0x3f84_7ae1_47ae_147b) ≡ false
+        → r ≡ rounded (crossing (ofBits binary64 0x40ef_ffe0_0000_0000)) → r ≡ between t x v c0 c1
     sloped h e = e ∙ chosen false h
 
-  -- 16 bits hold the answer where they hold x
+  -- 16 bits hold the answer between two cells where they hold x. [inverse_tail]
   pub between-fits : x ≤ 65535 → between t x v c0 c1 ≤ 65535
   between-fits h =
       let top = ofBits binary64 0x40ef_ffe0_0000_0000 in
@@ -106,6 +113,7 @@ module _ (t : List ℕ) (x v c0 c1 : ℕ) where
       subst (λ (n : ℕ). n ≤ 65535) answer-is
       (pick-le (eqb c0 c1) h (pick-le (lt (abs (slope top)) least) h (rounded-fits (crossing top))))
 
+-- 16 bits hold what the f64 steps answer where they hold x. [inverse_tail]
 pub tail-fits : (t : List ℕ) (x v : ℕ) → x ≤ 65535 → tail t x v ≤ 65535
 unfolding tail
 tail-fits t x v h = between-fits t x v (floor (cellOf (length t) x)) (ceil (cellOf (length t) x)) h

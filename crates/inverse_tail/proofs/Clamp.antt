@@ -1,4 +1,5 @@
--- The end of the f64 steps: below 0, at or above 65535, and between them floor(f + 0.5), which 16 bits hold. Assumes nothing.
+-- The end of the f64 steps: below 0, at or above 65535, and between them floor(f + 0.5), which 16 bits hold. Assumes
+-- nothing.
 use mathlib.Core.Path.{_≡_, _∙_, refl, sym, ap, ap₂, subst}
 use mathlib.Core.Logic.{_⊎_, inl, inr, ⊎-elim}
 use mathlib.Core.Bool.{Bool, true, false, not, _&&_, _||_, true≢false}
@@ -46,12 +47,14 @@ unfolding le lt eq
 above-not-under k nan h = refl
 above-not-under k (inf true) h = absurd (true≢false (sym h))
 above-not-under k (inf false) h = refl
-above-not-under k (fin false m e) h = le-ltb (m * up e * 1) (0 * down e) (subst (λ (z : ℕ). z ≤ m * up e * 1) (sym (zero-mul (down e))) zero-le)
+above-not-under k (fin false m e) h =
+    le-ltb (m * up e * 1) (0 * down e) (subst (λ (z : ℕ). z ≤ m * up e * 1) (sym (zero-mul (down e))) zero-le)
 above-not-under k (fin true m e) h =
     let a = k * 1 * down e in
     let b = m * up e * 1 in
     let t : T (eqb a b && (false || eqb a 0)) = subst T (sym h) tt in
-    zero (eqb→eq a b (and-l (eqb a b) (false || eqb a 0) t)) (eqb→eq a 0 (and-r (eqb a b) (eqb a 0) t)) (zero-mul (down e))
+    zero (eqb→eq a b (and-l (eqb a b) (false || eqb a 0) t)) (eqb→eq a 0 (and-r (eqb a b) (eqb a 0) t))
+    (zero-mul (down e))
   where
     zero : {a b c : ℕ} → a ≡ b → a ≡ 0 → c ≡ 0 → ltb 0 (b + c) ≡ false
     zero {a} {b} {c} p q r = le-ltb 0 (b + c) (omega arith)
@@ -67,7 +70,8 @@ under-upto : (k : ℕ) (f : Float) → isNan f ≡ false → lt f nought ≡ fal
 unfolding le
 under-upto k f n h g =
     let out : (false || (false || false)) ≡ not (upto k f) =
-    sym (ap₂ (λ (a b : Bool). a || b) n (ap₂ (λ (a b : Bool). a || b) h (left (lt (whole k) f) (eq (whole k) f) g))) ∙ outside-is k f in
+    sym (ap₂ (λ (a b : Bool). a || b) n (ap₂ (λ (a b : Bool). a || b) h (left (lt (whole k) f) (eq (whole k) f) g)))
+    ∙ outside-is k f in
     subst T (sym (not-false (upto k f) (sym out))) tt
   where
     left : (a b : Bool) → (a || b) ≡ false → a ≡ false
@@ -83,7 +87,8 @@ not-above (inf false) h = absurd (true≢false h)
 not-above (fin true zero e) h = absurd (subst T h (zeros-ordered false true (pos 0) e))
 not-above (fin true (suc m) e) h = inl (is-true (lt (fin true (suc m) e) nought) (negative-under m e))
 not-above (fin false m e) h =
-    absurd (subst T h (le-of-values nought (fin false m e) 0 1 (m * up e) (down e) (pow-pos 0) (down-pos e) (refl, refl) (refl, refl) (subst (λ (z : ℕ). z ≤ m * up e * 1) (sym (zero-mul (down e))) zero-le)))
+    absurd (subst T h (le-of-values nought (fin false m e) 0 1 (m * up e) (down e) (pow-pos 0) (down-pos e) (refl, refl)
+    (refl, refl) (subst (λ (z : ℕ). z ≤ m * up e * 1) (sym (zero-mul (down e))) zero-le)))
 
 rounded-nan : rounded nan ≡ 0
 unfolding rounded lt le eq add floor ofInt round
@@ -100,12 +105,13 @@ number-fits : (f : Float) → isNan f ≡ false → rounded f ≤ 65535
 unfolding rounded
 number-fits f n = go (lt f nought) (le (float 65535) f) refl refl
   where
-    go : (a b : Bool) → lt f nought ≡ a → le (float 65535) f ≡ b → pick a 0 (pick b 65535 (floor (add binary64 f half))) ≤ 65535
+    go : (a b : Bool) → lt f nought ≡ a → le (float 65535) f ≡ b
+        → pick a 0 (pick b 65535 (floor (add binary64 f half))) ≤ 65535
     go true b h g = zero-le
     go false true h g = le-refl 65535
     go false false h g = mid-fits f (under-upto 65535 f n h (ap (λ (z : Float). le z f) (sym top-whole) ∙ g))
 
--- whatever f is, 16 bits hold the answer
+-- 16 bits hold what a float is rounded to, whatever it is. [inverse_tail]
 pub rounded-fits : (f : Float) → rounded f ≤ 65535
 unfolding isNan
 rounded-fits nan = rw rounded-nan zero-le
@@ -131,7 +137,9 @@ module _ (f : Float) where
 
   pub rounded-low : le (ofBits binary64 0) f ≡ false → 0 ≡ rounded f
   unfolding rounded
-  rounded-low h = ⊎-elim (λ (u : lt f nought ≡ true). simp u) (λ (e : f ≡ nan). sym (ap rounded e ∙ rounded-nan)) (not-above f (zero-test false h))
+  rounded-low h =
+      ⊎-elim (λ (u : lt f nought ≡ true). simp u)
+      (λ (e : f ≡ nan). sym (ap rounded e ∙ rounded-nan)) (not-above f (zero-test false h))
 
   module _ (g : le (ofBits binary64 0x40ef_ffe0_0000_0000) f ≡ false) (h : le (ofBits binary64 0) f ≡ true) where
     inside : T (upto 65535 f)

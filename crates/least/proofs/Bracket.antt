@@ -1,5 +1,5 @@
--- A search for the first entry that is not below v between two indices of a nondecreasing table: every entry before the lower is below v, and the upper is not.
--- Assumes nothing.
+-- The search for the first entry that is not below v, between two indices of a nondecreasing table: every entry before
+-- the lower index is below v, and the entry at the upper is not. Assumes nothing.
 use Prim.Native.Nat.{ℕ, _+_, _-_, _≤_, _<_, zero-le}
 use mathlib.Core.Path.{_≡_, subst}
 use mathlib.Core.List.{List}

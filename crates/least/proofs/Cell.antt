@@ -1,5 +1,6 @@
--- Inside one cell of a table: entry c is below v and the next is not. The least input of v is then worked out by two quotients rounded up, how many steps
--- past entry c bring the lookup to v, and how many positions bring it that many steps. Assumes nothing.
+-- One cell of a table, where entry c is below v and the next is not. The least input of v is worked out by two
+-- quotients rounded up: how many steps past entry c bring the lookup to v, and how many positions make that many steps.
+-- Assumes nothing.
 use mathlib.Core.Path.{_≡_, _∙_, refl, sym, ap}
 use mathlib.Core.Logic.{⊎-elim, _↔_}
 use mathlib.Core.List.{List}
@@ -17,11 +18,14 @@ use Rattle.least.specs.Inside.{Cell}
 use Rattle.least.proofs.LeastLaws.{least-only}
 use Rattle.least.proofs.Tables.{table-order, table-rises}
 
--- entries a and b, k of 65535 steps from a to b: weighed so, they reach v exactly if k times their distance covers the way from a to v
-weigh : (a b v k : ℕ) → a ≤ b → a ≤ v → k ≤ 65535 → (v * 65535 ≤ b * k + a * (65535 - k)) ↔ ((v - a) * 65535 ≤ k * (b - a))
+-- entries a and b, k of 65535 steps from a to b: weighed so, they reach v exactly if k times their distance covers the
+-- way from a to v
+weigh : (a b v k : ℕ) → a ≤ b → a ≤ v → k ≤ 65535
+    → (v * 65535 ≤ b * k + a * (65535 - k)) ↔ ((v - a) * 65535 ≤ k * (b - a))
 weigh a b v k ab av h =
     let whole = parted a h in
-    let parts : b * k ≡ a * k + k * (b - a) = ap (λ (n : ℕ). n * k) (sym (add-sub-of-le ab)) ∙ add-mul a (b - a) k ∙ ap (λ (n : ℕ). a * k + n) (mul-comm (b - a) k) in
+    let parts : b * k ≡ a * k + k * (b - a) = ap (λ (n : ℕ). n * k) (sym (add-sub-of-le ab)) ∙ add-mul a (b - a) k
+    ∙ ap (λ (n : ℕ). a * k + n) (mul-comm (b - a) k) in
     ((λ l. omega arith), (λ l. omega arith))
 
 -- how many of the 65535 steps from entry c to the next bring the lookup to v
@@ -29,7 +33,8 @@ abbrev pub cellSteps : List ℕ → ℕ → ℕ → ℕ
 cellSteps t v c = divCeil ((v - getD t c 0) * 65535) (getD t (c + 1) 0 - getD t c 0)
 
 -- worked out of entries that were read
-pub steps-read : (t : List ℕ) (v c : ℕ) {before after w s : ℕ} → before ≡ getD t c 0 → w ≡ v → after ≡ getD t (c + 1) 0 → s ≡ divCeil ((w - before) * 65535) (after - before) → s ≡ cellSteps t v c
+pub steps-read : (t : List ℕ) (v c : ℕ) {before after w s : ℕ} → before ≡ getD t c 0 → w ≡ v → after ≡ getD t (c + 1) 0
+    → s ≡ divCeil ((w - before) * 65535) (after - before) → s ≡ cellSteps t v c
 steps-read t v c b w a s = rw (s, b, w, a) refl
 
 module _ {t : List ℕ} {top v c : ℕ} (cell : Cell t top v c) where
@@ -44,7 +49,8 @@ module _ {t : List ℕ} {top v c : ℕ} (cell : Cell t top v c) where
 
   -- at most a whole cell is stepped through
   pub steps-small : cellSteps t v c ≤ 65535
-  steps-small = ceil-le-iff ((v - getD t c 0) * 65535) (getD t (c + 1) 0 - getD t c 0) 65535 (omega arith) .1 (omega arith)
+  steps-small =
+      ceil-le-iff ((v - getD t c 0) * 65535) (getD t (c + 1) 0 - getD t c 0) 65535 (omega arith) .1 (omega arith)
 
   -- before the cell the lookup is at most entry c,
   before : (q : ℕ) → q ≤ 65535 → q * (length t - 1) < c * 65535 → Reaches q

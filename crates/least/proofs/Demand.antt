@@ -1,5 +1,5 @@
--- Demand 3, whole. It rests on what the lookup and the nudging layer promise, and on their laws; of the lookup nothing else is known here.
--- Assumes nothing.
+-- Demand 3, whole. It rests on what the lookup and the nudging layer promise, and on their laws; of the lookup nothing
+-- else is known here. Assumes nothing.
 use mathlib.Core.Path.{_≡_, refl}
 use mathlib.Core.Logic.{⊎-elim, _↔_}
 use mathlib.Core.Bool.{true}
@@ -35,7 +35,8 @@ module _ (t : List ℕ) (size : sized (length t) ≡ true) (order : Nondecreasin
     where
       reached : m .value .0 ≤ lastEntry t → lastEntry t < m .value .0
       reached h =
-          let f : m .answer ≡ Sought.At (record { 0 = leastOf (lookedUp t) (m .value .0) }) = least-found passed h (m .kept) in
+          let f : m .answer ≡ Sought.At (record { 0 = leastOf (lookedUp t) (m .value .0) }) =
+          least-found passed h (m .kept) in
           let z : _≡_ {A = ℕ} 0 1 = cc in
           absurd (omega arith)
 
@@ -60,9 +61,12 @@ module _ (t : List ℕ) (size : sized (length t) ≡ true) (order : Nondecreasin
         };
   }
 
+-- It is refused with 5 exactly if v is above the last entry, and otherwise the lookup at q is at least v exactly when q
+-- is at least the answer. [least::least_input]
 pub least-demand : LeastDemand
 least-demand = obeys
 
+-- Demand 3 holds, whole: the sitting's part, the lookup's and the least input's. [least]
 pub demand-3 : Demand3
 demand-3 = record { sitting = sitting-demand; lookup = lookup-demand; least = least-demand }
 
@@ -71,7 +75,9 @@ pub record CurveObeys (s : Sitting) : Type 0 where
   pub lookup : LookupObeys (s .table)
   pub least : LeastObeys (s .table)
 
-pub sitting-obeys : {lent : Sitting} {opening : Turn} {turns : List Turn} → WholeSitting lent opening turns → Throughout CurveObeys (opening .after) turns
+-- Throughout a sitting the lookup and the least input obey their laws on its table. [least, nudge]
+pub sitting-obeys : {lent : Sitting} {opening : Turn} {turns : List Turn} → WholeSitting lent opening turns
+    → Throughout CurveObeys (opening .after) turns
 sitting-obeys {lent} {opening} {turns} w =
     throughout-map
     (λ s i.

@@ -1,5 +1,5 @@
--- What the lookup's laws tell the search of a table that has passed the tests: its lookup never falls, so that a value not above the last
--- entry has a least input. Assumes nothing.
+-- What the lookup's laws say of a table that has passed the tests: its lookup never falls, so every value that is not
+-- above the last entry has a least input. Assumes nothing.
 use mathlib.Core.Path.{_≡_, ap}
 use mathlib.Core.List.{List}
 use Prim.Native.Nat.{ℕ, _-_, _≤_, zero-le}

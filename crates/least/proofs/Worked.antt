@@ -1,5 +1,5 @@
--- Worked examples: document 01's least inputs, a value equal to the last entry, each refusal, and the laws on one sitting's tables.
--- The lookups in them come from the lookup's law on two weighed entries. Assumes nothing.
+-- Worked examples: document 01's least inputs, a value equal to the last entry, each refusal, and the laws on one
+-- sitting's tables. The lookups in them come from the lookup's law on two weighed entries. Assumes nothing.
 use mathlib.Core.Path.{_≡_, refl, sym, ap}
 use mathlib.Core.Logic.{⊎-elim}
 use mathlib.Core.List.{List, [], _∷_}
@@ -42,7 +42,8 @@ module _ (t : List ℕ) (p v c k : ℕ) (e : p * (length t - 1) ≡ c * 65535 + 
       (below? (lookedUp t p) v)
 
 -- where the lookup is below v at q and at least v at the next position, that one is the least input
-stands : {t : List ℕ} → Passed t → (v q : ℕ) → suc q ≤ 65535 → lookedUp t q < v → v ≤ lookedUp t (suc q) → leastOf (lookedUp t) v ≡ suc q
+stands : {t : List ℕ} → Passed t → (v q : ℕ) → suc q ≤ 65535 → lookedUp t q < v → v ≤ lookedUp t (suc q)
+    → leastOf (lookedUp t) v ≡ suc q
 stands {t} s v q h l r =
     least-at (lookedUp t) v (table-rises s) (suc q) h r
     (λ p e. let same : p ≡ q = omega arith in omega (arith, ap (lookedUp t) same))

@@ -1,6 +1,6 @@
--- The promise is met (`least-row-some`) and names one answer and one later state of its buffer, refused calls too: whatever is lent there is one numbered answer
--- (`least-row-answer`), and a refused row leaves its buffer as it was (`least-row-refused`). A granted one holds, entry by entry, what the single call answers.
--- Assumes nothing.
+-- The promise can be met (`least-row-some`) and names one answer and one later state of its buffer, for refused calls
+-- too. Whatever is lent, there is one numbered answer (`least-row-answer`), and a refused row leaves its buffer as it
+-- was (`least-row-refused`). A granted one holds, entry by entry, what the single call answers. Assumes nothing.
 use mathlib.Core.Path.{_≡_, _∙_, refl, sym, ap}
 use mathlib.Core.Logic.{⊎-elim, _↔_}
 use mathlib.Core.List.{List}
@@ -26,17 +26,22 @@ use Rattle.least.proofs.Tables.{table-inside}
 use Rattle.least.proofs.Promises.{least-answer, least-found, least-above}
 use Rattle.least_row.specs.Promises.{leastRowAt, leastRowOf, leastRowVerdict, LeastRowPromise}
 
-pub least-row-some : (t values out : List ℕ) → LeastRowPromise t values out (doneBy (leastRowVerdict t values out)) (ifGranted (leastRowVerdict t values out) (leastRowOf t values) out)
+-- The promise can be kept. [least_row::least_input_row]
+pub least-row-some : (t values out : List ℕ) → LeastRowPromise t values out (doneBy (leastRowVerdict t values out))
+    (ifGranted (leastRowVerdict t values out) (leastRowOf t values) out)
 least-row-some t values out = record { number = done-number (leastRowVerdict t values out); after = refl }
 
 module _ {t values out : List ℕ} where
-  pub least-row-one : {r q : Done} {out′ out″ : List ℕ} → LeastRowPromise t values out r out′ → LeastRowPromise t values out q out″ → (r ≡ q) × (out′ ≡ out″)
+  pub least-row-one : {r q : Done} {out′ out″ : List ℕ} → LeastRowPromise t values out r out′
+      → LeastRowPromise t values out q out″ → (r ≡ q) × (out′ ≡ out″)
   least-row-one {r} {q} a b = (same-done r q (a .number ∙ sym (b .number)), a .after ∙ sym (b .after))
 
-  pub least-row-answer : {r : Done} {out′ : List ℕ} → LeastRowPromise t values out r out′ → r ≡ doneBy (leastRowVerdict t values out)
+  -- The answer is what the tests come to. [least_row::least_input_row]
+  pub least-row-answer : {r : Done} {out′ : List ℕ} → LeastRowPromise t values out r out′
+      → r ≡ doneBy (leastRowVerdict t values out)
   least-row-answer a = done-is (leastRowVerdict t values out) (a .number)
 
-  -- a granted one has passed the tests
+  -- A granted row's table has passed the tests of its length and its order. [least_row::least_input_row]
   pub least-row-passed : {out′ : List ℕ} → LeastRowPromise t values out Done.Yes out′ → Passed t
   least-row-passed a =
       let w = done-granted (leastRowVerdict t values out) (a .number) in
@@ -44,10 +49,13 @@ module _ {t values out : List ℕ} where
       let six = rung-granted (eqb (length out) (length values)) OutputLength _ (one .1) in
       record { size = one .0; order = rung-granted (nondecreasing t) NotNondecreasing granted (six .1) .0 }
 
+  -- A granted row is the defined one. [least_row::least_input_row]
   pub least-row-granted : {out′ : List ℕ} → LeastRowPromise t values out Done.Yes out′ → out′ ≡ leastRowOf t values
   least-row-granted a = a .after ∙ simp (done-granted (leastRowVerdict t values out) (a .number))
 
-  pub least-row-refused : {why : Refusal} {out′ : List ℕ} → LeastRowPromise t values out (Done.Refused why) out′ → out′ ≡ out
+  -- A refused row leaves the output as it was. [least_row::least_input_row]
+  pub least-row-refused : {why : Refusal} {out′ : List ℕ}
+      → LeastRowPromise t values out (Done.Refused why) out′ → out′ ≡ out
   least-row-refused {why} a = a .after ∙ simp (done-refused (leastRowVerdict t values out) why (a .number))
 
 -- how a row writes the single call's answer
@@ -59,16 +67,19 @@ in-row : (w : Verdict) (p : ℕ) → ifGranted w p 65536 ≡ inRow (soughtBy w p
 in-row granted p = refl
 in-row (refused why) p = refl
 
--- a granted row holds at each place the single call's answer to the value there
-pub row-is-single : {t values out out′ : List ℕ} → LeastRowPromise t values out Done.Yes out′ → (i : ℕ) → i < length values → (r : Sought) → LeastPromise t (record { 0 = getD values i 0 }) r → getD out′ i 0 ≡ inRow r
+-- A granted row holds at each place the single call's answer to the value there. [least_row::least_input_row]
+pub row-is-single : {t values out out′ : List ℕ} → LeastRowPromise t values out Done.Yes out′ → (i : ℕ)
+    → i < length values → (r : Sought) → LeastPromise t (record { 0 = getD values i 0 }) r → getD out′ i 0 ≡ inRow r
 row-is-single {t} {values} a i h r b =
     ap (λ (l : List ℕ). getD l i 0) (least-row-granted a)
     ∙ getD-tabulated (leastRowAt t values) (length values) i 0 h
     ∙ in-row (leastVerdict t (getD values i 0)) (leastOf (lookedUp t) (getD values i 0))
     ∙ ap inRow (sym (least-answer b))
 
--- so 65536 stands in it exactly where the single call is refused with 5
-pub row-none : {t values out out′ : List ℕ} → LeastRowPromise t values out Done.Yes out′ → (i : ℕ) → i < length values → (r : Sought) → LeastPromise t (record { 0 = getD values i 0 }) r → (getD out′ i 0 ≡ 65536) ↔ (r ≡ Sought.Refused AboveLast)
+-- In a granted row 65536 stands exactly where the single call is refused with 5. [least_row::least_input_row]
+pub row-none : {t values out out′ : List ℕ} → LeastRowPromise t values out Done.Yes out′ → (i : ℕ) → i < length values
+    → (r : Sought) → LeastPromise t (record { 0 = getD values i 0 }) r
+    → (getD out′ i 0 ≡ 65536) ↔ (r ≡ Sought.Refused AboveLast)
 row-none {t} {values} {out} {out′} a i h r b = ⊎-elim above inside (below? (lastEntry t) (getD values i 0))
   where
     entry : getD out′ i 0 ≡ inRow r

@@ -11,19 +11,23 @@ use Rattle.table.proofs.Choice.{both-left}
 use Rattle.log.specs.Records.{word, newOf, oldOf, indexOf, goesWith}
 
 module _ (i old new : ℕ) (o : old < 65536) (n : new < 65536) where
+  -- A word's index is the one that it was made of. [log]
   pub index-word : indexOf (word i old new) ≡ i
   index-word = omega arith
 
+  -- A word's old entry is the one that it was made of. [log]
   pub old-word : oldOf (word i old new) ≡ old
   old-word = omega arith
 
+  -- A word's new entry is the one that it was made of. [log]
   pub new-word : newOf (word i old new) ≡ new
   new-word = omega arith
 
--- both entries are 16 bits wide, whatever the number
+-- A word's new entry is 16 bits wide, whatever the word. [log]
 pub new-narrow : (w : ℕ) → newOf w < 65536
 new-narrow w = omega arith
 
+-- A word's old entry is 16 bits wide, whatever the word. [log]
 pub old-narrow : (w : ℕ) → oldOf w < 65536
 old-narrow w = omega arith
 
@@ -41,6 +45,7 @@ module _ (t : List ℕ) (w : ℕ) where
   unfolding goesWith
   goes-same h e = simp (lt-ltb _ _ h, eq-eqb _ _ e)
 
+  -- A word that goes with a table has an index inside it. [log]
   pub goes-inside : goesWith t w ≡ true → indexOf w < length t
   unfolding goesWith
   goes-inside e = ltb-true _ _ (both-left _ _ e)

@@ -102,20 +102,23 @@ taken-back : (t : List ℕ) (w : ℕ) → Grantable t w → takenBack (nudged t 
 taken-back t w g = set-set t (indexOf w) (newOf w) (oldOf w) ∙ rw (g .was) (set-getD t (indexOf w) 0)
 
 -- The table t is the table o with the nudges ws done in order: o is nondecreasing, and each nudge might be granted in
--- its turn.
+-- its turn. [log]
 pub record Kept (o t ws : List ℕ) : Type 0 where
   order : nondecreasing o ≡ true
   each : EachGrantable o ws
   pub comes : allNudged o ws ≡ t
 
+-- A nondecreasing table is itself with no nudge done. [log]
 pub kept-none : {o : List ℕ} → nondecreasing o ≡ true → Kept o o []
 unfolding allNudged EachGrantable
 kept-none r = record { order = r; each = tt; comes = refl }
 
 module _ {o t ws : List ℕ} (k : Kept o t ws) where
+  -- The table with its nudges done is nondecreasing. [log]
   pub kept-order : nondecreasing t ≡ true
   kept-order = subst (λ (l : List ℕ). nondecreasing l ≡ true) (k .comes) (nudged-order o ws (k .order) (k .each))
 
+  -- One more nudge that might be granted may be done at the end. [log]
   pub kept-more : (w : ℕ) → Grantable t w → Kept o (nudged t w) (ws ++ (w ∷ []))
   kept-more w g = record {
     order = k .order;
@@ -127,6 +130,7 @@ module _ {o t : List ℕ} (ws : List ℕ) (w : ℕ) (k : Kept o t (ws ++ (w ∷ 
   before : nudged (allNudged o ws) w ≡ t
   before = sym (nudged-last o ws w) ∙ k .comes
 
+  -- The last nudge taken back gives the table before it. [log]
   pub kept-less : Kept o (takenBack t w) ws
   kept-less =
       let l = each-less o ws w (k .each) in
@@ -136,7 +140,7 @@ module _ {o t : List ℕ} (ws : List ℕ) (w : ℕ) (k : Kept o t (ws ++ (w ∷ 
         comes = sym (taken-back (allNudged o ws) w (l .1)) ∙ ap (λ (t : List ℕ). takenBack t w) before;
       }
 
-  -- the last nudge goes with the table, so that it can be taken back
+  -- The last nudge goes with the table, so that it can be taken back. [log]
   pub kept-goes : goesWith t w ≡ true
   kept-goes =
       let l = each-less o ws w (k .each) in

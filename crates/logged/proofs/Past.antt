@@ -1,5 +1,5 @@
--- What the places past the count hold is no part of the log: no call's answer rests on it, nor anything else that it
--- leaves. Assumes nothing.
+-- The places past the count are no part of the log: no call's answer depends on what they hold, nor does anything else
+-- that a call leaves. Assumes nothing.
 use mathlib.Core.Path.{_≡_, _∙_, refl, sym, ap, subst}
 use mathlib.Core.Logic.{⊎-elim}
 use mathlib.Core.List.{List, [], _∷_, _++_}
@@ -89,7 +89,7 @@ module _ (t l m : List ℕ) (k : ℕ) (e : take k l ≡ take k m) where
             (subst (Alike (left call w l)) (sym right) (left-alike a b call w refl)),
       )
 
--- Whatever is past the count in each, the answers are one, and what is left is alike.
+-- Two logs that agree up to the count are answered the same, and what is left is alike. [logged]
 pub past-no-part : {call : Call} {s q s′ q′ : Logged} {r p : Done} → length (s .log) ≡ places →
     length (q .log) ≡ places → Alike s q →
     LogPromise call s r s′ → LogPromise call q p q′ → (r ≡ p) × Alike s′ q′

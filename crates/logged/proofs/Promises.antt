@@ -1,7 +1,7 @@
--- The promise of each call is met (`log-some`), and names one answer and one later state, refused calls too
--- (`log-one`). Whatever is lent or asked, a table of any length, a count above the places, any words, any index: there
--- is one numbered answer (`log-answer`), and a refused call leaves all as it was (`log-refused`). What the calls do
--- without a log they do with one, and when 15 and 16 are given. Assumes nothing.
+-- The promise of each call can be met (`log-some`) and names one answer and one later state, for refused calls too
+-- (`log-one`). Whatever is lent or asked, a table of any length, a count above the places, any words, any index, there
+-- is one numbered answer (`log-answer`), and a refused call leaves all as it was (`log-refused`). Also: what the calls
+-- do without a log they do with one, and when 15 and 16 are given. Assumes nothing.
 use mathlib.Core.Path.{_≡_, _∙_, refl, sym, ap}
 use mathlib.Core.Logic.{_↔_}
 use Prim.Native.Nat.{ℕ, _-_, _≤_, _<_}
@@ -17,7 +17,8 @@ use Rattle.table.specs.Answers.{numberOfDone}
 use Rattle.table.specs.declared.Density.{Density}
 use Rattle.table.specs.declared.Done.{Done}
 use Rattle.table.specs.declared.Refusal.{Refusal}
-use Rattle.table.specs.declared.Refusal.the-variants.{TableLength, NotNondecreasing, IndexBeyond, OutsideNeighbours, LogFull, NothingToTakeBack, BadLog}
+use Rattle.table.specs.declared.Refusal.the-variants.{TableLength, NotNondecreasing, IndexBeyond, OutsideNeighbours}
+use Rattle.table.specs.declared.Refusal.the-variants.{LogFull, NothingToTakeBack, BadLog}
 use Rattle.table.proofs.Refusals.{same-verdict, rung-granted, rung-holds, rung-fails, rung-joined}
 use Rattle.table.proofs.Answers.{same-done, doneBy, done-number, done-is, done-granted, done-refused}
 use Rattle.curve.specs.Promises.{sittingOn, StartPromise, AcceptPromise}
@@ -28,6 +29,7 @@ use Rattle.logged.specs.State.{Logged}
 use Rattle.logged.specs.Promises.{Call, start, accept, nudge, takeBack, soundLog, callVerdict, leaves, LogPromise}
 use Rattle.logged.proofs.Cases.{is-full, none-stands}
 
+-- The promise of each of the four calls can be kept. [logged]
 pub log-some : (call : Call) (s : Logged) →
     LogPromise call s (doneBy (callVerdict call s)) (ifGranted (callVerdict call s) (leaves call s) s)
 log-some call s = record { number = done-number (callVerdict call s); after = refl }
@@ -36,17 +38,20 @@ module _ {call : Call} {s : Logged} where
   pub log-one : {r q : Done} {s′ s″ : Logged} → LogPromise call s r s′ → LogPromise call s q s″ → (r ≡ q) × (s′ ≡ s″)
   log-one {r} {q} a b = (same-done r q (a .number ∙ sym (b .number)), a .after ∙ sym (b .after))
 
+  -- Each of the four calls answers what its tests come to. [logged]
   pub log-answer : {r : Done} {s′ : Logged} → LogPromise call s r s′ → r ≡ doneBy (callVerdict call s)
   log-answer a = done-is (callVerdict call s) (a .number)
 
+  -- A granted call has passed its tests, and leaves what is defined. [logged]
   pub log-granted : {s′ : Logged} → LogPromise call s Done.Yes s′ →
       (callVerdict call s ≡ granted) × (s′ ≡ leaves call s)
   log-granted a = let w = done-granted (callVerdict call s) (a .number) in (w, a .after ∙ simp w)
 
+  -- A refused call leaves table, log and count as they were. [logged]
   pub log-refused : {why : Refusal} {s′ : Logged} → LogPromise call s (Done.Refused why) s′ → s′ ≡ s
   log-refused {why} a = a .after ∙ simp (done-refused (callVerdict call s) why (a .number))
 
--- What the calls do without a log they do with one. Start and accept always,
+-- Start with a log keeps, on the table, the promise of the start without one. [logged::log_start]
 pub start-same : {s s′ : Logged} {r : Done} → LogPromise start s r s′ →
     StartPromise (sittingOn (s .table)) r (sittingOn (s′ .table))
 start-same {s} a =
@@ -56,6 +61,7 @@ start-same {s} a =
     part granted = refl
     part (refused why) = refl
 
+-- Accept with a log keeps the promise of the accept without one. [logged::log_accept]
 pub accept-same : {s s′ : Logged} {r : Done} → LogPromise accept s r s′ →
     AcceptPromise (sittingOn (s .table)) r (sittingOn (s′ .table))
 accept-same {s} a =
@@ -66,8 +72,8 @@ accept-same {s} a =
     part (refused why) = refl
 
 module _ (s : Logged) (i : ℕ) (v : Density) where
-  -- a nudge wherever the count is not above the places: its tests are those without a log, and whether there is room
-  -- comes last.
+  -- With a count of at most 63 its tests are those of the nudge without a log, and whether there is room, 15, comes
+  -- last. [logged::log_nudge]
   pub nudge-ladder : s .count ≤ places →
       callVerdict (nudge i v) s ≡
       andThen (nudgeVerdict (sittingOn (s .table)) i (v .0)) (rung (ltb (s .count) places) LogFull granted)
@@ -85,7 +91,7 @@ module _ (s : Logged) (i : ℕ) (v : Density) where
       ∙ rung-joined (ltb i (length (s .table))) IndexBeyond order last)
       ∙ rung-joined (sized (length (s .table))) TableLength index last)
 
-  -- So with room it is the nudge without a log.
+  -- With room it keeps, on the table, the promise of the nudge without a log. [logged::log_nudge]
   pub nudge-same : {r : Done} {s′ : Logged} → s .count < places → LogPromise (nudge i v) s r s′ →
       NudgePromise (sittingOn (s .table)) i v r (sittingOn (s′ .table))
   nudge-same h a =
@@ -104,7 +110,8 @@ module _ (s : Logged) (i : ℕ) (v : Density) where
       part granted = refl
       part (refused why) = refl
 
-  -- 15 is given exactly where the nudge could be granted without a log, and as many stand as there are places.
+  -- 15 is given exactly where the nudge could be granted without a log, and 63 stand. That is as many as there are
+  -- places. [logged::log_nudge]
   pub fifteen-exactly : {r : Done} {s′ : Logged} → LogPromise (nudge i v) s r s′ →
       (numberOfDone r ≡ 15) ↔ (Nudgeable (s .table) i (v .0) × (s .count ≡ places))
   fifteen-exactly {r} a = (given, full)
@@ -133,7 +140,7 @@ module _ (s : Logged) (i : ℕ) (v : Density) where
           let few = le-leb (s .count) places (omega (arith, f .1)) in
           a .number ∙ simp (n .size, few, lt-ltb _ _ (n .index), n .order, n .fitting, is-full (f .1))
 
--- What a granted nudge and a granted take-back have found.
+-- A granted nudge could be granted without a log, and fewer than 63 stood. [logged::log_nudge]
 pub nudge-found : (s : Logged) (i : ℕ) (v : Density) → callVerdict (nudge i v) s ≡ granted →
     Nudgeable (s .table) i (v .0) × (s .count < places)
 nudge-found s i v g =
@@ -146,6 +153,7 @@ nudge-found s i v g =
       ltb-true (s .count) places (rung-granted (ltb (s .count) places) LogFull granted (four .1) .0),
     )
 
+-- A granted take-back had a nudge that stood. [logged::take_back]
 pub back-some : (s : Logged) → callVerdict takeBack s ≡ granted → 0 < s .count
 back-some s g =
     let one = rung-granted (sized (length (s .table))) TableLength _ g in
@@ -153,7 +161,7 @@ back-some s g =
     let sound = rung-granted (soundLog s) BadLog _ (two .1) in
     ltb-true 0 (s .count) (rung-granted (ltb 0 (s .count)) NothingToTakeBack granted (sound .1) .0)
 
--- 16 is given exactly where the table may be worked on, and none stands.
+-- 16 is given exactly where the table may be worked on, and none stands. [logged::take_back]
 pub sixteen-exactly : {s s′ : Logged} {r : Done} → LogPromise takeBack s r s′ →
     (numberOfDone r ≡ 16) ↔ (Passed (s .table) × (s .count ≡ 0))
 sixteen-exactly {s} {r = r} a = (given, none)

@@ -1,6 +1,6 @@
--- A sitting with a log: throughout, the table is the starting one with the standing nudges done in order (document 02's
--- rule), and demand 3 holds; and taking all back gives the starting table. Sittings there are: every granted start or
--- accept begins one, and from there every list of calls is one. Assumes nothing.
+-- A sitting with a log. Throughout it, the table is the starting one with the standing nudges done in order (document
+-- 02's rule), and demand 3 holds; taking all nudges back gives the starting table. There are such sittings: every
+-- granted start or accept begins one, and from there every list of calls is one. Assumes nothing.
 use mathlib.Core.Path.{_≡_, _∙_, refl, sym, ap, subst}
 use mathlib.Core.Logic.{_↔_, ⊎-elim}
 use mathlib.Core.Bool.{true}
@@ -21,7 +21,8 @@ use Rattle.table.specs.Answers.{numberOfDone}
 use Rattle.table.specs.Turns.{end}
 use Rattle.table.specs.declared.Density.{Density}
 use Rattle.table.specs.declared.Done.{Done}
-use Rattle.table.specs.declared.Refusal.the-variants.{TableLength, NotNondecreasing, IndexBeyond, OutsideNeighbours, LogFull, NothingToTakeBack}
+use Rattle.table.specs.declared.Refusal.the-variants.{TableLength, NotNondecreasing, IndexBeyond, OutsideNeighbours}
+use Rattle.table.specs.declared.Refusal.the-variants.{LogFull, NothingToTakeBack}
 use Rattle.table.proofs.Choice.{never}
 use Rattle.table.proofs.Sizes.{within-low, within-high, is-within}
 use Rattle.table.proofs.Refusals.{rung-other}
@@ -38,8 +39,11 @@ use Rattle.log.proofs.Records.{index-word, old-word, new-word, old-narrow}
 use Rattle.log.proofs.Replay.{Grantable, Kept, kept-none, kept-order, kept-more, kept-less, kept-goes}
 use Rattle.logged.specs.State.{Logged, standing, lastStanding, Lent}
 use Rattle.logged.specs.Promises.{Call, start, accept, nudge, takeBack, soundLog, callVerdict, leaves, LogPromise}
-use Rattle.logged.specs.Sitting.{Typed, Step, Turn, Run, begins, WholeSitting, ended, startingFrom, startingTable, standsAfter, standsFrom, standingNudges, Obeys, LogDemand, Backs, AllGranted, AllBack}
-use Rattle.logged.proofs.Promises.{log-some, log-granted, log-refused, start-same, accept-same, nudge-found, back-some, sixteen-exactly}
+use Rattle.logged.specs.Sitting.{Typed, Step, Turn, Run, begins, WholeSitting, ended, startingFrom, startingTable}
+use Rattle.logged.specs.Sitting.{standsAfter, standsFrom, standingNudges, Obeys, LogDemand, Backs, AllGranted}
+use Rattle.logged.specs.Sitting.{AllBack}
+use Rattle.logged.proofs.Promises.{log-some, log-granted, log-refused, start-same, accept-same, nudge-found}
+use Rattle.logged.proofs.Promises.{back-some, sixteen-exactly}
 
 -- The first k places are those before the last of them, and that one.
 module _ (l : List ℕ) (k : ℕ) (some : 0 < k) (room : k ≤ length l) where
@@ -254,6 +258,7 @@ module _ {n : ℕ} {o ws : List ℕ} {s : Logged} (h : Held n o ws s) where
         back-granted = back-granted;
       }
 
+-- At the end of every sitting document 02's rule and demand 3 hold, and no call is refused with 17. [logged]
 pub log-demand : LogDemand
 log-demand lent opening turns w = held-obeys (held-sitting turns w) refl
 
@@ -262,6 +267,7 @@ first-run : (turns more : List Turn) (s : Logged) → Run s (turns ++ more) → 
 first-run [] more s run = tt
 first-run (t ∷ turns) more s run = (run .0, first-run turns more (t .after) (run .1))
 
+-- The first turns of a sitting are a sitting. [logged]
 pub first-turns : {lent : Logged} {opening : Turn} (turns more : List Turn) →
     WholeSitting lent opening (turns ++ more) →
     WholeSitting lent opening turns
@@ -271,14 +277,14 @@ first-turns {opening = opening} turns more w = record {
   run = (w .run .0, first-run turns more (opening .after) (w .run .1));
 }
 
--- Where none stands, the table is the starting one;
+-- Where none stands, the table is the starting one. [logged]
 pub none-stands-so : {lent : Logged} {o ws : List ℕ} {s : Logged} → Obeys lent o ws s → s .count ≡ 0 → s .table ≡ o
 unfolding allNudged
 none-stands-so {o = o} {s = s} b e =
     let none : standing s ≡ [] = ap (λ (k : ℕ). take k (s .log)) e in
     b .rule ∙ ap (allNudged o) (sym (b .log-holds) ∙ none)
 
--- and take-backs lead there, each granted.
+-- Take-backs lead there, each granted.
 module _ {n : ℕ} {o : List ℕ} where
   backs-lead : (backs : List Turn) {ws : List ℕ} {s : Logged} → Held n o ws s → Run s backs → Backs backs →
       length backs ≡ s .count →
@@ -294,26 +300,27 @@ module _ {n : ℕ} {o : List ℕ} where
       let rest = backs-lead backs held (run .1) (b .1) (omega arith) in
       ((yes, rest .0), rest .1)
 
+-- Take back all that stand, and the starting table is there again. [logged]
 pub all-back : AllBack
 all-back lent opening turns w backs run b e = backs-lead backs (held-sitting turns w) run b e
 
--- Every granted start or accept begins a sitting,
+-- Every granted start or accept begins a sitting. [logged]
 pub begins-one : {lent : Logged} (opening : Turn) → Lent lent → begins (opening .call) (opening .answer) ≡ true →
     Step lent (opening .call) (opening .answer) (opening .after) → WholeSitting lent opening []
 begins-one opening t o a = record { types = t; opened = o; run = (a, tt) }
 
--- a start of every lent table of 2 to 65,536 entries, whatever its log holds and counts,
+-- A start of every lent table of 2 to 65,536 entries begins a sitting, whatever its log holds and counts. [logged]
 pub start-begins : {lent : Logged} → Lent lent → spanned (length (lent .table)) ≡ true →
     WholeSitting lent (record { call = start; answer = Done.Yes; after = leaves start lent }) []
 start-begins t h = begins-one _ t refl (tt, record { number = simp h; after = simp h })
 
--- an accept of every nondecreasing table of 1 to 65,536 entries,
+-- An accept of every nondecreasing table of 1 to 65,536 entries begins a sitting. [logged]
 pub accept-begins : {lent : Logged} → Lent lent → sized (length (lent .table)) ≡ true →
     nondecreasing (lent .table) ≡ true →
     WholeSitting lent (record { call = accept; answer = Done.Yes; after = leaves accept lent }) []
 accept-begins t h r = begins-one _ t refl (tt, record { number = simp (h, r); after = simp (h, r) })
 
--- and from there every list of calls, given what their types allow, is one.
+-- From there every list of calls, given what their types allow, is one.
 abbrev pub turnsOf : Logged → List Call → List Turn
 turnsOf s [] = []
 turnsOf s (call ∷ calls) =
@@ -329,6 +336,7 @@ turns-run [] s t = tt
 turns-run (call ∷ calls) s t =
     ((t .0, log-some call s), turns-run calls (ifGranted (callVerdict call s) (leaves call s) s) (t .1))
 
+-- After an opening every list of calls goes on as a sitting. [logged]
 pub every-list-goes : {lent : Logged} {opening : Turn} → WholeSitting lent opening [] → (calls : List Call) →
     AllTyped calls →
     WholeSitting lent opening (turnsOf (opening .after) calls)

@@ -12,7 +12,8 @@ use Rattle.table.specs.Turns.{end}
 use Rattle.table.specs.declared.Density.{Density}
 use Rattle.table.specs.declared.Done.{Done}
 use Rattle.table.specs.declared.Refusal.{Refusal}
-use Rattle.table.specs.declared.Refusal.the-variants.{TableLength, NotNondecreasing, IndexBeyond, OutsideNeighbours, LogFull, NothingToTakeBack, BadLog}
+use Rattle.table.specs.declared.Refusal.the-variants.{TableLength, NotNondecreasing, IndexBeyond, OutsideNeighbours}
+use Rattle.table.specs.declared.Refusal.the-variants.{LogFull, NothingToTakeBack, BadLog}
 use Rattle.curve.specs.Ramp.{ramp}
 use Rattle.log.specs.Records.{word, goesWith}
 use Rattle.logged.specs.State.{Logged, loggedOn, Lent}

@@ -1,4 +1,4 @@
--- The promise is met by an answer, and names that one alone; and the promise at each way out of the routine. Assumes nothing.
+-- The promise can be met, and names one answer; and how each way out of the routine keeps it. Assumes nothing.
 use mathlib.Core.Path.{_≡_, _∙_, refl, sym, ap}
 use mathlib.Core.Bool.{Bool, true, false}
 use mathlib.Core.List.{List}
@@ -15,7 +15,8 @@ use Rattle.monotonic.specs.declared.Direction.{Direction}
 use Rattle.monotonic.specs.declared.Monotonic.{Monotonic}
 
 -- a verdict's number and values tell the whole verdict
-same-monotonic : (r s : Monotonic) → numberOfMonotonic r ≡ numberOfMonotonic s → yesOfMonotonic r ≡ yesOfMonotonic s → violationsOfMonotonic r ≡ violationsOfMonotonic s → r ≡ s
+same-monotonic : (r s : Monotonic) → numberOfMonotonic r ≡ numberOfMonotonic s → yesOfMonotonic r ≡ yesOfMonotonic s
+    → violationsOfMonotonic r ≡ violationsOfMonotonic s → r ≡ s
 same-monotonic (Monotonic.Yes v) (Monotonic.Yes w) n y e = ap Monotonic.Yes e
 same-monotonic (Monotonic.Yes v) (Monotonic.No w) n y e = absurd (omega arith)
 same-monotonic (Monotonic.Yes v) (Monotonic.Refused b) n y e = absurd (omega arith)
@@ -26,7 +27,8 @@ same-monotonic (Monotonic.Refused a) (Monotonic.Yes w) n y e = absurd (omega ari
 same-monotonic (Monotonic.Refused a) (Monotonic.No w) n y e = absurd (omega (arith, number-above a))
 same-monotonic (Monotonic.Refused a) (Monotonic.Refused b) n y e = ap Monotonic.Refused (same-refusal a b n)
 
-pub monotonic-one : (t : List ℕ) (d : Direction) (r s : Monotonic) → MonotonicPromise t d r → MonotonicPromise t d s → r ≡ s
+pub monotonic-one : (t : List ℕ) (d : Direction) (r s : Monotonic) → MonotonicPromise t d r
+    → MonotonicPromise t d s → r ≡ s
 monotonic-one t d r s p q =
     same-monotonic r s (p .number ∙ sym (q .number)) (p .yes ∙ sym (q .yes)) (p .count ∙ sym (q .count))
 
@@ -35,7 +37,8 @@ module _ (t : List ℕ) (d : Direction) where
   monotonic-long e = record { number = simp e; yes = simp e; count = simp e }
 
   module _ (e : notAbove (length t) ≡ true) (v : ℕ) (c : v ≡ violations d t) where
-    pub monotonic-judged : (b : Bool) → fewEnough (length t) v ≡ b → MonotonicPromise t d (pick b (Monotonic.Yes v) (Monotonic.No v))
+    pub monotonic-judged : (b : Bool) → fewEnough (length t) v ≡ b
+        → MonotonicPromise t d (pick b (Monotonic.Yes v) (Monotonic.No v))
     monotonic-judged true f = record { number = simp e; yes = simp (e, ← c, f); count = simp (e, c) }
     monotonic-judged false f = record { number = simp e; yes = simp (e, ← c, f); count = simp (e, c) }
 
@@ -46,10 +49,12 @@ module _ (t : List ℕ) (d : Direction) where
       (pick (monotonic d t) (Monotonic.Yes (violations d t)) (Monotonic.No (violations d t)))
       (Monotonic.Refused TableLength)
 
+  -- The promise can be kept. [monotonic::is_curve_monotonic]
   pub monotonic-answered : MonotonicPromise t d monotonicAnswer
   unfolding monotonicAnswer
   monotonic-answered = go (notAbove (length t)) refl
     where
-      go : (f : Bool) → notAbove (length t) ≡ f → MonotonicPromise t d (pick f (pick (monotonic d t) (Monotonic.Yes (violations d t)) (Monotonic.No (violations d t))) (Monotonic.Refused TableLength))
+      go : (f : Bool) → notAbove (length t) ≡ f → MonotonicPromise t d (pick f (pick (monotonic d t)
+          (Monotonic.Yes (violations d t)) (Monotonic.No (violations d t))) (Monotonic.Refused TableLength))
       go false e = monotonic-long e
       go true e = monotonic-judged e (violations d t) refl (monotonic d t) refl

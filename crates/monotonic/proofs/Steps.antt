@@ -1,5 +1,5 @@
--- The violations of a direction: a walk over the table that counts them, and that a table has no falls exactly where it is nondecreasing.
--- Assumes nothing.
+-- The violations of a direction: a walk over the table counts them, and a table has no falls exactly if it is
+-- nondecreasing. Assumes nothing.
 use mathlib.Core.Path.{_≡_, _∙_, refl, sym, ap}
 use mathlib.Core.Bool.{Bool, true, false}
 use mathlib.Core.Logic.{⊎-elim}
@@ -27,6 +27,7 @@ few-from : (d : Direction) (x : ℕ) (l : List ℕ) → violationsFrom d x l ≤
 few-from d x [] = zero-le
 few-from d x (y ∷ l) = omega (arith, yes-no-few (against d x y), few-from d y l)
 
+-- There are at most as many violations as entries. [monotonic::is_curve_monotonic]
 pub violations-few : (d : Direction) (t : List ℕ) → violations d t ≤ length t
 violations-few d [] = zero-le
 violations-few d (x ∷ l) = le-trans (few-from d x l) (le-suc (length l))
@@ -46,7 +47,8 @@ module _ (d : Direction) where
   counted-start t =
       record { from = omega arith; few = omega arith; sum = zero-add _ ∙ first-step t }
 
-  pub counted-on : (t : List ℕ) (count i : ℕ) → i < length t → Counted d t count i → Counted d t (count + yesNo (against d (getD t (i - 1) 0) (getD t i 0))) (i + 1)
+  pub counted-on : (t : List ℕ) (count i : ℕ) → i < length t → Counted d t count i
+      → Counted d t (count + yesNo (against d (getD t (i - 1) 0) (getD t i 0))) (i + 1)
   counted-on t count i h w =
       let step = yesNo (against d (getD t (i - 1) 0) (getD t i 0)) in
       let next : violationsFrom d (getD t (i - 1) 0) (drop i t) ≡ step + violationsFrom d (getD t i 0) (drop (suc i) t)
@@ -64,7 +66,7 @@ module _ (d : Direction) where
       = rw (drop-of-length-le t {i = i} h) (add-zero count) in
       sym none ∙ w .sum
 
--- fewer than two entries have no neighbours
+-- Fewer than two entries have no neighbours, and no violation. [monotonic::is_curve_monotonic]
 pub short-none : (d : Direction) (t : List ℕ) → length t < 2 → violations d t ≡ 0
 short-none d [] h = refl
 short-none d (x ∷ []) h = refl
@@ -87,10 +89,12 @@ from-no-falls x (y ∷ l) e =
     let le : x ≤ y = leb-true x y (both-left _ _ e) in
     rw (le-ltb y x le) (zero-add _ ∙ from-no-falls y l (both-right (leb x y) _ e))
 
+-- A table without a violation of rising is nondecreasing. [monotonic::is_curve_monotonic]
 pub no-falls : (t : List ℕ) → violations Rising t ≡ 0 → nondecreasing t ≡ true
 no-falls [] e = refl
 no-falls (x ∷ l) e = no-falls-from x l e
 
+-- A nondecreasing table has no violation of rising. [monotonic::is_curve_monotonic]
 pub nondecreasing-none : (t : List ℕ) → nondecreasing t ≡ true → violations Rising t ≡ 0
 nondecreasing-none [] e = refl
 nondecreasing-none (x ∷ l) e = from-no-falls x l e

@@ -1,13 +1,14 @@
--- The Rust asks whether `violations as f64 / n as f64` is below 0.05. Of every table that is judged, that is the document's 20v < n: rounding keeps the
--- order of fractions, 0.05 is a twentieth rounded, and no fraction below a twentieth with a denominator up to 65,536 is above 65535/1310720, which rounds
--- to less than 0.05.
--- Assumes nothing.
+-- The Rust asks whether `violations as f64 / n as f64` is below 0.05. For every table that is judged, that is the
+-- document's 20v < n. For rounding keeps the order of fractions, 0.05 is a twentieth rounded, and no fraction below a
+-- twentieth with a denominator up to 65,536 is above 65535/1310720, which rounds to less than 0.05. Assumes nothing.
 use mathlib.Core.Path.{_≡_, _∙_, refl, sym, ap, ap₂, subst}
 use mathlib.Core.Logic.{⊎-elim}
 use mathlib.Core.Bool.{Bool, true, false, true≢false}
 use mathlib.Core.List.{List}
 use Prim.Native.Nat.{ℕ, zero, suc, _*_, _^_, _≤_, _<_}
-use native.Mathlib.Nat.{mul-one, mul-assoc, mul-comm, mul-left-comm, mul-right-comm, mul-pos, mul-le-mul-right, mul-lt-mul-of-pos-right, lt-of-mul-lt-mul-right, le-trans, le-of-eq, lt-of-le-of-lt, lt-of-lt-of-le, eq-zero-or-pos, zero-lt-suc}
+use native.Mathlib.Nat.{mul-one, mul-assoc, mul-comm, mul-left-comm, mul-right-comm, mul-pos, mul-le-mul-right}
+use native.Mathlib.Nat.{mul-lt-mul-of-pos-right, lt-of-mul-lt-mul-right, le-trans, le-of-eq, lt-of-le-of-lt}
+use native.Mathlib.Nat.{lt-of-lt-of-le, eq-zero-or-pos, zero-lt-suc}
 use native.Mathlib.Omega.{arith}
 use borrow.Author.Tests.{lt-ltb, le-ltb, ne-eqb}
 use lib.ListN.{length}
@@ -37,7 +38,8 @@ unfolding lt div ofInt fiveHundredths
 f64Test v n = lt (div binary64 (ofInt binary64 (pos v)) (ofInt binary64 (pos n))) fiveHundredths
 
 -- the quotient of two whole numbers that floats hold is their fraction, rounded once
-quotient : (f : Format) (x y : Float) (a b : ℕ) → HasValue x false a 1 → HasValue y false b 1 → 0 < b → div f x y ≡ round f false a b
+quotient : (f : Format) (x y : Float) (a b : ℕ) → HasValue x false a 1 → HasValue y false b 1 → 0 < b
+    → div f x y ≡ round f false a b
 unfolding div
 quotient f nan y a b p q B = absurd p
 quotient f (inf s) y a b p q B = absurd p
@@ -78,7 +80,8 @@ le-then-lt x y z p q r P h k =
     (le-trans (le-of-eq (mul-right-comm x r q)) (le-trans (mul-le-mul-right r h) (le-of-eq (mul-right-comm y p r))))
     (lt-of-lt-of-le (mul-lt-mul-of-pos-right k P) (le-of-eq (mul-right-comm z q p))))
 
--- The fractions between which all others here lie, a twentieth, and the bound on those below it: each, rounded, is above zero, and the bound is below 0.05.
+-- The fractions between which all others here lie, a twentieth, and the bound on those below it: each, rounded, is
+-- above zero, and the bound is below 0.05.
 least-positive : T (positive (round binary64 false 1 65536))
 unfolding round
 least-positive = tt
@@ -119,8 +122,9 @@ module _ (v n : ℕ) (vn : v ≤ n) (few : n ≤ 65536) where
       let xy : num x * den y ≤ num y * den x
       = le→cross x y (fraction-positive h) under-positive
       (round-mono binary64 v n 65535 1310720 (omega arith) (lit< tt) (omega arith)) in
-      let yz : num y * den z < num z * den y
-      = ltb→lt (num y * den z) (num z * den y) (subst T (lt-cross y z under-positive twentieth-positive) under-twentieth) in
+      let yz : num y * den z < num z * den y =
+      ltb→lt (num y * den z) (num z * den y)
+      (subst T (lt-cross y z under-positive twentieth-positive) under-twentieth) in
       lt-cross x z (fraction-positive h) twentieth-positive
       ∙ lt-ltb (num x * den z) (num z * den x)
       (le-then-lt (num x) (num y) (num z) (den x) (den y) (den z) (den-pos x) xy yz)
@@ -151,22 +155,26 @@ module _ (v n : ℕ) (vn : v ≤ n) (few : n ≤ 65536) where
       (below? (20 * v) n))
       (eq-zero-or-pos v)
 
+  -- The Rust's f64 test is 20 × violations < entries. [monotonic::is_curve_monotonic]
   pub f64-test : 0 < n → f64Test v n ≡ ltb (20 * v) n
   unfolding f64Test ofInt
   f64-test N =
       ap₂ lt
-      (quotient binary64 (round binary64 false v 1) (round binary64 false n 1) v n (round-whole binary64 false v (le-trans vn wide)) (round-whole binary64 false n wide) N)
+      (quotient binary64 (round binary64 false v 1) (round binary64 false n 1) v n
+      (round-whole binary64 false v (le-trans vn wide)) (round-whole binary64 false n wide) N)
       is-rounded
       ∙ rounded N
     where
       wide : n ≤ 2 ^ 53
       wide = le-trans few (lit≤ tt)
 
--- so the verdict is the Rust's, in the direction that it is given
-pub as-the-rust : (d : Direction) (t : List ℕ) → length t ≤ 65536 → monotonic d t ≡ pick (ltb (length t) 2) true (f64Test (violations d t) (length t))
+-- The verdict is the Rust's, in the direction that it is given. [monotonic::is_curve_monotonic]
+pub as-the-rust : (d : Direction) (t : List ℕ) → length t ≤ 65536
+    → monotonic d t ≡ pick (ltb (length t) 2) true (f64Test (violations d t) (length t))
 unfolding fewEnough
 as-the-rust d t few = go (length t) (violations-few d t) few
   where
-    go : (n : ℕ) → violations d t ≤ n → n ≤ 65536 → pick (ltb n 2) true (ltb (20 * violations d t) n) ≡ pick (ltb n 2) true (f64Test (violations d t) n)
+    go : (n : ℕ) → violations d t ≤ n → n ≤ 65536
+        → pick (ltb n 2) true (ltb (20 * violations d t) n) ≡ pick (ltb n 2) true (f64Test (violations d t) n)
     go zero h k = refl
     go (suc n) h k = rw (f64-test (violations d t) (suc n) h k (zero-lt-suc n))

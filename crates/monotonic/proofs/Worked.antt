@@ -20,7 +20,8 @@ before x n = x ∷ replicate n 5
 abbrev after : ℕ → ℕ → List ℕ
 after n x = replicate n 5 ++ (x ∷ [])
 
--- one violation in 20 entries is too many and in 21 it is not: a fall in the last pair and in the first, then a rise in each
+-- One violation in 20 entries is too many and in 21 it is not: a fall in the last pair and in the first, then a rise in
+-- each. [monotonic::is_curve_monotonic]
 one-violation :
     (monotonicAnswer (after 19 4) Rising ≡ Monotonic.No 1)
     × (monotonicAnswer (after 20 4) Rising ≡ Monotonic.Yes 1)
@@ -33,7 +34,8 @@ one-violation :
 unfolding monotonicAnswer fewEnough
 one-violation = (refl, refl, refl, refl, refl, refl, refl, refl)
 
--- a rise is none where the direction is rising, nor are equal neighbours either way; fewer than two entries have none; a pair that falls has one, and no
+-- A rise is no violation of rising, and equal neighbours are none either way. Fewer than two entries have none; a pair
+-- that falls has one, and the answer is no. [monotonic::is_curve_monotonic]
 few-violations :
     (monotonicAnswer (after 19 6) Rising ≡ Monotonic.Yes 0)
     × (monotonicAnswer (replicate 20 5) Rising ≡ Monotonic.Yes 0)
@@ -46,4 +48,5 @@ few-violations = (refl, refl, refl, refl, refl, refl)
 
 -- 65,537 entries are refused
 monotonic-65537 : (x : ℕ) (d : Direction) → MonotonicPromise (replicate 65537 x) d (Monotonic.Refused TableLength)
-monotonic-65537 x d = monotonic-long _ d (lt-leb (length (replicate 65537 x)) 65536 (omega (arith, length-replicate 65537 x)))
+monotonic-65537 x d =
+    monotonic-long _ d (lt-leb (length (replicate 65537 x)) 65536 (omega (arith, length-replicate 65537 x)))

@@ -1,5 +1,6 @@
--- What holds throughout a sitting, and that each call keeps it: demand 3's part on the table. Sittings there are: every granted start or
--- accept begins one, and from there every list of calls is one (`begins`, `every-list-goes`). Assumes nothing.
+-- What holds throughout a sitting, and that each call keeps it: demand 3's part on the table. There are sittings: every
+-- granted start or accept begins one, and from there every list of calls is one (`begins`, `every-list-goes`). Assumes
+-- nothing.
 use mathlib.Core.Path.{_≡_, _∙_, refl, sym, ap, subst}
 use mathlib.Core.Bool.{true}
 use mathlib.Core.List.{List, [], _∷_}
@@ -33,7 +34,12 @@ Held s = Passed (s .table)
 -- that of the straight curve may,
 held-ramp : (n : ℕ) → spanned n ≡ true → Held (sittingOn (rampOf n))
 held-ramp n h = record {
-  size = is-within 1 65536 (length (rampOf n)) (omega (arith, length-tabulated (ramp n) n, within-low 2 65536 n h)) (omega (arith, length-tabulated (ramp n) n, within-high 2 65536 n h));
+  size =
+      is-within 1 65536 (length (rampOf n)) (omega (
+        arith,
+        length-tabulated (ramp n) n,
+        within-low 2 65536 n h,
+      )) (omega (arith, length-tabulated (ramp n) n, within-high 2 65536 n h));
   order = fact-test (rampOf n) (ramp-order n h);
 }
 
@@ -56,7 +62,7 @@ held-nudge {s} {s′} {i} {v} h a =
       order = set-test (s .table) i (v .0) (test-fact (s .table) (h .order)) (g .0 .index) (g .0 .fitting);
     })
 
--- every call keeps it, granted or refused,
+-- After any call, granted or refused, a nondecreasing table of 1 to 65,536 entries still is one. [nudge::nudge]
 step-keeps : (call : Call) (r : Done) (s s′ : Sitting) → Held s → Step s call r s′ → Held s′
 step-keeps start Done.Yes s s′ h a = held-open start s s′ refl a
 step-keeps start (Done.Refused why) s s′ h a = subst Held (sym (start-refused a)) h
@@ -64,7 +70,7 @@ step-keeps accept r s s′ h a = subst Held (sym (accept-same a)) h
 step-keeps (nudge i v) Done.Yes s s′ h a = held-nudge h a
 step-keeps (nudge i v) (Done.Refused why) s s′ h a = subst Held (sym (nudge-refused a)) h
 
--- and the length
+-- Every call, granted or refused, keeps the table's length. [nudge::nudge]
 step-length : (call : Call) (r : Done) (s s′ : Sitting) → Step s call r s′ → length (s′ .table) ≡ length (s .table)
 step-length start Done.Yes s s′ a =
     ap length (start-granted a .1) ∙ length-tabulated (ramp (length (s .table))) (length (s .table))
@@ -77,7 +83,8 @@ module _ (lent : Sitting) where
   held-in-order : {s : Sitting} → Held s → length (s .table) ≡ length (lent .table) → InOrder lent s
   held-in-order {s} h e = record { order = test-fact (s .table) (h .order); size = h .size; same-length = e }
 
-  run-keeps : (turns : List Turn) (s : Sitting) → Held s → length (s .table) ≡ length (lent .table) → Run s turns → Throughout (InOrder lent) s turns
+  run-keeps : (turns : List Turn) (s : Sitting) → Held s → length (s .table) ≡ length (lent .table) → Run s turns
+      → Throughout (InOrder lent) s turns
   run-keeps [] s h e run = held-in-order h e
   run-keeps (t ∷ turns) s h e run = (
     held-in-order h e,
@@ -85,7 +92,7 @@ module _ (lent : Sitting) where
         (step-length (t .call) (t .answer) s (t .after) (run .0) ∙ e) (run .1),
   )
 
--- and throughout a whole sitting
+-- After each call of every sitting the table is nondecreasing, and as long as the one that was lent. [nudge]
 pub sitting-demand : SittingDemand
 sitting-demand lent opening turns w =
     let opened =
@@ -95,7 +102,8 @@ sitting-demand lent opening turns w =
     (step-length (opening .call) (opening .answer) lent (opening .after) (w .run .0)) (w .run .1)
 
 -- what follows at each turn follows throughout
-pub throughout-map : {P Q : Sitting → Type 0} → ((s : Sitting) → P s → Q s) → (turns : List Turn) (s : Sitting) → Throughout P s turns → Throughout Q s turns
+pub throughout-map : {P Q : Sitting → Type 0} → ((s : Sitting) → P s → Q s) → (turns : List Turn) (s : Sitting)
+    → Throughout P s turns → Throughout Q s turns
 throughout-map f [] s a = f s a
 throughout-map f (t ∷ turns) s a = (f s (a .0), throughout-map f turns (t .after) (a .1))
 
@@ -122,25 +130,32 @@ step-bits (nudge i v) Done.Yes s s′ f b a =
     subst SixteenBits (sym (nudge-granted a .1)) (set-keeps-bits (s .table) i (v .0) b f)
 step-bits (nudge i v) (Done.Refused why) s s′ f b a = subst Bits (sym (nudge-refused a)) b
 
+-- The entries stay 16 bits wide where the samples of the nudges are. [nudge]
 pub run-keeps-bits : (turns : List Turn) (s : Sitting) → Bits s → AllFit turns → Run s turns → Throughout Bits s turns
 run-keeps-bits [] s b f run = b
-run-keeps-bits (t ∷ turns) s b f run =
-    (b, run-keeps-bits turns (t .after) (step-bits (t .call) (t .answer) s (t .after) (f .0) b (run .0)) (f .1) (run .1))
+run-keeps-bits (t ∷ turns) s b f run = (
+  b,
+  run-keeps-bits turns (t .after) (step-bits (t .call) (t .answer) s (t .after) (f .0) b (run .0)) (f .1) (run .1),
+)
 
--- Every granted start or accept begins a sitting,
+-- There are sittings.
 module _ (lent : Sitting) where
-  pub begins : (opening : Turn) → opens (opening .call) ≡ true → opening .answer ≡ Done.Yes → Step lent (opening .call) (opening .answer) (opening .after) → WholeSitting lent opening []
+  -- Every granted start or accept begins a sitting. [nudge]
+  pub begins : (opening : Turn) → opens (opening .call) ≡ true → opening .answer ≡ Done.Yes
+      → Step lent (opening .call) (opening .answer) (opening .after) → WholeSitting lent opening []
   begins opening o g a = record { opened = o; granted = g; run = (a, tt) }
 
-  -- a start of every lent table of 2 to 65,536 entries,
-  pub start-begins : spanned (length (lent .table)) ≡ true → WholeSitting lent (record { call = start; answer = Done.Yes; after = sittingOn (rampOf (length (lent .table))) }) []
+  -- A start of every lent table of 2 to 65,536 entries begins a sitting. [curve::start]
+  pub start-begins : spanned (length (lent .table)) ≡ true → WholeSitting lent
+      (record { call = start; answer = Done.Yes; after = sittingOn (rampOf (length (lent .table))) }) []
   start-begins h = begins _ refl refl (record { number = simp h; table = simp h })
 
-  -- an accept of every nondecreasing table of 1 to 65,536 entries,
-  pub accept-begins : sized (length (lent .table)) ≡ true → nondecreasing (lent .table) ≡ true → WholeSitting lent (record { call = accept; answer = Done.Yes; after = lent }) []
+  -- An accept of every nondecreasing table of 1 to 65,536 entries begins a sitting. [curve::accept]
+  pub accept-begins : sized (length (lent .table)) ≡ true → nondecreasing (lent .table) ≡ true
+      → WholeSitting lent (record { call = accept; answer = Done.Yes; after = lent }) []
   accept-begins h o = begins _ refl refl (record { number = simp (h, o); table = refl })
 
--- and from there every list of calls is one: each has an answer by its tests, and leaves a table.
+-- From there every list of calls is one: each has an answer by its tests, and leaves a table.
 abbrev pub verdictOf : Sitting → Call → Verdict
 verdictOf s start = startVerdict s
 verdictOf s accept = acceptVerdict s
@@ -165,7 +180,9 @@ turns-run : (calls : List Call) (s : Sitting) → Run s (turnsOf s calls)
 turns-run [] s = tt
 turns-run (call ∷ calls) s = (step-goes s call, turns-run calls (leaves s call))
 
-pub every-list-goes : {lent : Sitting} {opening : Turn} → WholeSitting lent opening [] → (calls : List Call) → WholeSitting lent opening (turnsOf (opening .after) calls)
+-- After an opening every list of calls goes on as a sitting. [nudge]
+pub every-list-goes : {lent : Sitting} {opening : Turn} → WholeSitting lent opening [] → (calls : List Call)
+    → WholeSitting lent opening (turnsOf (opening .after) calls)
 every-list-goes {lent} {opening} w calls = record {
   opened = w .opened;
   granted = w .granted;

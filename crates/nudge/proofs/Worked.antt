@@ -1,4 +1,5 @@
--- Worked examples: each refusal and its order, and one whole sitting with a granted and a refused nudge. Assumes nothing.
+-- Worked examples: each refusal and its order, and one whole sitting with a granted and a refused nudge. Assumes
+-- nothing.
 use mathlib.Core.Path.{_≡_, refl}
 use mathlib.Core.List.{List, [], _∷_}
 use Prim.Native.Nat.{ℕ, zero, suc}
@@ -34,7 +35,8 @@ nudge-empty : NudgePromise (sittingOn []) 0 (density 7) (Done.Refused TableLengt
 unfolding within density
 nudge-empty = record { number = refl; table = refl }
 
-nudge-of-65537 : (t : List ℕ) → length t ≡ 65537 → (i : ℕ) (v : Density) → NudgePromise (sittingOn t) i v (Done.Refused TableLength) (sittingOn t)
+nudge-of-65537 : (t : List ℕ) → length t ≡ 65537 → (i : ℕ) (v : Density)
+    → NudgePromise (sittingOn t) i v (Done.Refused TableLength) (sittingOn t)
 unfolding within
 nudge-of-65537 t e i v = record { number = simp e; table = simp e }
 
@@ -59,7 +61,8 @@ nudge-granted : NudgePromise straight 1 (density 100) Done.Yes bent
 unfolding within notBelowLeft notAboveRight straight bent density
 nudge-granted = record { number = refl; table = refl }
 
--- A start of three entries on a lent buffer of sevens, the middle one nudged to 100, and the first to 101, which is refused.
+-- A start of three entries on a lent buffer of sevens, the middle one nudged to 100, and the first to 101, which is
+-- refused.
 lent : Sitting
 lent = sittingOn (7 ∷ 7 ∷ 7 ∷ [])
 

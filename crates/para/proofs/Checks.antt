@@ -75,6 +75,7 @@ pub record Readable (b : List ℕ) : Type 0 where
   pub known : typeOf b ≤ 4
   pub whole : length b ≡ tagLength (countOf (typeOf b))
 
+-- A tag that is granted has passed all six tests. [para::read_para]
 pub readable : (b : List ℕ) → tagVerdict b ≡ granted → Readable b
 unfolding tagVerdict
 readable b e =
@@ -95,5 +96,6 @@ readable b e =
       whole = eqb-true _ _ (u .0);
     }
 
+-- A tag that passes all six tests is granted. [para::read_para]
 pub grants : (b : List ℕ) → Readable b → tagVerdict b ≡ granted
 grants b r = right b (r .opened) (r .known) (countOf (typeOf b)) refl (r .whole)

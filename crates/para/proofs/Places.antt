@@ -23,21 +23,25 @@ placed-seven at k h = getD-tabulated at 7 k (pos 0) h
 
 -- Whatever is made of seven numbers, one at a time, and the numbers themselves.
 pub listed-made : {A : Type 0} {g a b c d e f : A} (make : ℤ → A) (m : Numbers)
-    → g ≡ make (m .g) → a ≡ make (m .a) → b ≡ make (m .b) → c ≡ make (m .c) → d ≡ make (m .d) → e ≡ make (m .e) → f ≡ make (m .f)
+    → g ≡ make (m .g) → a ≡ make (m .a) → b ≡ make (m .b) → c ≡ make (m .c) → d ≡ make (m .d) → e ≡ make (m .e)
+    → f ≡ make (m .f)
     → g ∷ a ∷ b ∷ c ∷ d ∷ e ∷ f ∷ [] ≡ map make (listed m)
 listed-made make m p q r s t u v = λ i. p i ∷ q i ∷ r i ∷ s i ∷ t i ∷ u i ∷ v i ∷ []
 
 pub used-made : {g a b c d e f : ℤ} (n : ℕ) (at : ℕ → ℤ)
-    → g ≡ usedAt n at 0 → a ≡ usedAt n at 1 → b ≡ usedAt n at 2 → c ≡ usedAt n at 3 → d ≡ usedAt n at 4 → e ≡ usedAt n at 5 → f ≡ usedAt n at 6
+    → g ≡ usedAt n at 0 → a ≡ usedAt n at 1 → b ≡ usedAt n at 2 → c ≡ usedAt n at 3 → d ≡ usedAt n at 4
+    → e ≡ usedAt n at 5 → f ≡ usedAt n at 6
     → _≡_ {A = Numbers} (record { g = g; a = a; b = b; c = c; d = d; e = e; f = f }) (used n at)
 used-made n at p q r s t u v = λ i. record { g = p i; a = q i; b = r i; c = s i; d = t i; e = u i; f = v i }
 
 -- of the first n numbers, whatever is made of each, and in that order
-pub first-used : {A : Type 0} (make : ℤ → A) (n : ℕ) (at : ℕ → ℤ) → n ≤ 7 → take n (map make (listed (used n at))) ≡ tabulated (λ k. make (at k)) n
+pub first-used : {A : Type 0} (make : ℤ → A) (n : ℕ) (at : ℕ → ℤ) → n ≤ 7
+    → take n (map make (listed (used n at))) ≡ tabulated (λ k. make (at k)) n
 first-used make n at h =
     let l = map make (listed (used n at)) in
     let long : length (take n l) ≡ n = length-take-le n l h in
-    ext-getD (make (pos 0)) (take n l) (tabulated (λ k. make (at k)) n) (long ∙ sym (length-tabulated (λ k. make (at k)) n)) (λ k below.
+    ext-getD (make (pos 0)) (take n l) (tabulated (λ k. make (at k)) n)
+    (long ∙ sym (length-tabulated (λ k. make (at k)) n)) (λ k below.
     let here : k < n = omega arith in
     getD-take n l k (make (pos 0)) here
     ∙ List·getD-map make (listed (used n at)) k (pos 0)
@@ -53,7 +57,8 @@ used-same n at other e = λ i. seven (λ k. place k (ltb k n) refl i)
     place k false above = refl
 
 -- seven numbers of 32 bits are 32 bits wide at every place
-pub each-wide : (m : Numbers) → mag (m .g) < 0x8000_0000 → mag (m .a) < 0x8000_0000 → mag (m .b) < 0x8000_0000 → mag (m .c) < 0x8000_0000
+pub each-wide : (m : Numbers) → mag (m .g) < 0x8000_0000 → mag (m .a) < 0x8000_0000 → mag (m .b) < 0x8000_0000
+    → mag (m .c) < 0x8000_0000
     → mag (m .d) < 0x8000_0000 → mag (m .e) < 0x8000_0000 → mag (m .f) < 0x8000_0000 → SignedBits m
 each-wide m p q r s t u v zero = p
 each-wide m p q r s t u v (suc zero) = q

@@ -1,4 +1,5 @@
--- Worked examples, by computation: a tag of each type read, with numbers below 0; and each refusal, with the order of the refusals. Assumes nothing.
+-- Worked examples, by computation: a tag of each type read, with numbers below 0; and each refusal, with the order of
+-- the refusals. Assumes nothing.
 use mathlib.Core.Path.{refl}
 use mathlib.Core.List.{List, [], _∷_}
 use Prim.Native.Nat.{ℕ}
@@ -52,15 +53,18 @@ one-read : ReadPromise one (Read.Parameters 1 (raw (pos 144179) (pos 0) (pos 0) 
 unfolding tagVerdict be16 be32 countOf numbersOf rawAt signedOf
 one-read = record { number = refl; count = refl; numbers = refl }
 
-three-read : ReadPromise three (Read.Parameters 3 (raw (pos 131072) (pos 65536) (negsuc 32767) (pos 0) (pos 0) (pos 0) (pos 0)))
+three-read : ReadPromise three
+    (Read.Parameters 3 (raw (pos 131072) (pos 65536) (negsuc 32767) (pos 0) (pos 0) (pos 0) (pos 0)))
 unfolding tagVerdict be16 be32 countOf numbersOf rawAt signedOf
 three-read = record { number = refl; count = refl; numbers = refl }
 
-four-read : ReadPromise four (Read.Parameters 4 (raw (pos 131072) (pos 65536) (negsuc 0) (negsuc 2147483647) (pos 0) (pos 0) (pos 0)))
+four-read : ReadPromise four
+    (Read.Parameters 4 (raw (pos 131072) (pos 65536) (negsuc 0) (negsuc 2147483647) (pos 0) (pos 0) (pos 0)))
 unfolding tagVerdict be16 be32 countOf numbersOf rawAt signedOf
 four-read = record { number = refl; count = refl; numbers = refl }
 
-five-read : ReadPromise five (Read.Parameters 5 (raw (pos 157286) (pos 62119) (pos 3417) (pos 5072) (pos 2651) (pos 0) (pos 0)))
+five-read : ReadPromise five
+    (Read.Parameters 5 (raw (pos 157286) (pos 62119) (pos 3417) (pos 5072) (pos 2651) (pos 0) (pos 0)))
 unfolding tagVerdict be16 be32 countOf numbersOf rawAt signedOf
 five-read = record { number = refl; count = refl; numbers = refl }
 
@@ -85,7 +89,8 @@ unreserved-tenth : ReadPromise (112 ∷ 97 ∷ 114 ∷ 97 ∷ 0 ∷ 0 ∷ 0 ∷ 
 unfolding tagVerdict be16 be32
 unreserved-tenth = record { number = refl; count = refl; numbers = refl }
 
-unreserved-eleventh : ReadPromise (112 ∷ 97 ∷ 114 ∷ 97 ∷ 0 ∷ 0 ∷ 0 ∷ 0 ∷ 0 ∷ 5 ∷ 0 ∷ 1 ∷ []) (Read.Refused ReservedNotZero)
+unreserved-eleventh : ReadPromise
+    (112 ∷ 97 ∷ 114 ∷ 97 ∷ 0 ∷ 0 ∷ 0 ∷ 0 ∷ 0 ∷ 5 ∷ 0 ∷ 1 ∷ []) (Read.Refused ReservedNotZero)
 unfolding tagVerdict be16 be32
 unreserved-eleventh = record { number = refl; count = refl; numbers = refl }
 

@@ -1,4 +1,4 @@
--- `Promises`: how the promise is met, that it names one answer, and how it stands to the numbers that are read.
+-- `Promises`: how the promise is met, that it names one answer, and how the curve and the numbers read go together.
 -- `NoNan`: when a field is a NaN. `Worked`: examples.
 pub mod Promises
 pub mod NoNan

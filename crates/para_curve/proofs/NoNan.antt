@@ -16,7 +16,8 @@ use Rattle.table.proofs.Fill.{length-tabulated, getD-tabulated}
 use Rattle.icc.specs.Bytes.{EightBits, be32}
 use Rattle.icc.proofs.Numbers.{be32-halves, below16}
 use Rattle.ieee.specs.Range.{nought}
-use Rattle.ieee.proofs.NoNan.{no-nan, finite-no-nan, Unquotable, nan-over, over-nan, both-infinite, both-zero, neg-div-nan}
+use Rattle.ieee.proofs.NoNan.{no-nan, finite-no-nan, Unquotable, nan-over, over-nan, both-infinite, both-zero}
+use Rattle.ieee.proofs.NoNan.{neg-div-nan}
 use Rattle.rounding.proofs.NoNan.{ratio-finite}
 use Rattle.parametric.specs.declared.ParametricCurve.{ParametricCurve}
 use Rattle.parametric.specs.declared.Unified.{Unified}
@@ -93,7 +94,7 @@ module _ (b : List ℕ) (w : EightBits b) where
       (λ q. types (typeOf b) known (q .0))
       (k .d-kept)
 
--- Of any bytes, granted or refused: no field but d is a NaN, or an infinity,
+-- Of any bytes, granted or refused, no field but d is a NaN, or an infinity. [para_curve::read_parametric_curve]
 pub curve-no-nan : {b : List ℕ} {r : Unified} → EightBits b → CurvePromise b r
     → Kept Finite (countOf (typeOf b)) (valueOfUnified r)
 curve-no-nan {b} {r} w p = subst (Kept Finite (countOf (typeOf b))) (sym (p .value)) (go (tagVerdict b) refl)
@@ -102,7 +103,7 @@ curve-no-nan {b} {r} w p = subst (Kept Finite (countOf (typeOf b))) (sym (p .val
     go granted e = read-kept b w (readable b e .known)
     go (refused why) e = none-kept Finite tt tt (countOf (typeOf b))
 
--- and d only of types 1 and 2 where a and b are 0.
+-- d is a NaN only of types 1 and 2 where a and b are 0. [para_curve::read_parametric_curve]
 pub curve-d-nan : {b : List ℕ} {r : Unified} → EightBits b → CurvePromise b r → valueOfUnified r .d ≡ nan
     → ((typeOf b ≡ 1) ⊎ (typeOf b ≡ 2)) × T (eq (valueOfUnified r .a) nought) × T (eq (valueOfUnified r .b) nought)
 curve-d-nan {b} {r} w p e = go (tagVerdict b) refl

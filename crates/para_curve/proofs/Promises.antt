@@ -1,4 +1,5 @@
--- How the promise is met; the curve and the numbers that are read; and that the promise names one answer. Assumes nothing.
+-- How the promise is met; how the curve and the numbers read go together; and that the promise names one answer.
+-- Assumes nothing.
 use mathlib.Core.Path.{_≡_, _∙_, refl, sym, ap}
 use mathlib.Core.Bool.{Bool, true, false}
 use mathlib.Core.List.{List, map}
@@ -32,37 +33,52 @@ unfolding countOf counted
 count-counted = five (λ t. counted (countOf t) ≡ true) refl refl refl refl refl
 
 module _ (b : List ℕ) where
+  -- Where the tests refuse the tag, that refusal keeps the promise. [para_curve::read_parametric_curve]
   pub curve-refused : (why : Refusal) → tagVerdict b ≡ refused why → CurvePromise b (Unified.Refused why)
   curve-refused why e = record { number = simp e; value = simp e }
 
-  -- the floats that the curve is unified from are those of the numbers that are read
-  pub floats-read : {n : ℕ} {m : Numbers} → Granted b n m → take n (map nearest (listed m)) ≡ tabulated (λ k. nearest (rawAt b k)) (countOf (typeOf b))
+  -- The floats that the curve is unified from are those of the numbers that are read.
+  -- [para_curve::read_parametric_curve]
+  pub floats-read : {n : ℕ} {m : Numbers} → Granted b n m
+      → take n (map nearest (listed m)) ≡ tabulated (λ k. nearest (rawAt b k)) (countOf (typeOf b))
   unfolding numbersOf
-  floats-read g = rw (g .numbers, g .count) (first-used nearest (countOf (typeOf b)) (rawAt b) (count-most (typeOf b) (g .known)))
+  floats-read g =
+      rw (g .numbers, g .count) (first-used nearest (countOf (typeOf b)) (rawAt b) (count-most (typeOf b) (g .known)))
 
-  -- and a curve may have as many, so that nothing is refused but the tag
-  pub curve-granted : {n : ℕ} {m : Numbers} {r : Unified} → Granted b n m → NewPromise (take n (map nearest (listed m))) r → CurvePromise b r
+  -- What `new` answers to the tag's numbers keeps the promise, so that nothing is refused but the tag.
+  -- [para_curve::read_parametric_curve]
+  pub curve-granted : {n : ℕ} {m : Numbers} {r : Unified} → Granted b n m
+      → NewPromise (take n (map nearest (listed m))) r → CurvePromise b r
   curve-granted {n} {m} g p =
       let params = tabulated (λ k. nearest (rawAt b k)) (countOf (typeOf b)) in
-      let many : counted (length params) ≡ true
-      = ap counted (length-tabulated (λ k. nearest (rawAt b k)) (countOf (typeOf b))) ∙ count-counted (typeOf b) (g .known) in
+      let many : counted (length params) ≡ true =
+      ap counted (length-tabulated (λ k. nearest (rawAt b k)) (countOf (typeOf b)))
+      ∙ count-counted (typeOf b) (g .known) in
       let q : NewPromise params _ = rw (floats-read g) at p in
-      record { number = simp (g .verdict) (simp many at (q .number)); value = simp (g .verdict) (simp many at (q .value)) }
+      record {
+        number = simp (g .verdict) (simp many at (q .number));
+        value = simp (g .verdict) (simp many at (q .value));
+      }
 
--- A tag's two readings: refused by the same number, and otherwise the curve is unified from the numbers that are read.
-pub same-number : {b : List ℕ} {r : Read} {s : Unified} → ReadPromise b r → CurvePromise b s → numberOfRead r ≡ numberOfUnified s
+-- It carries the number that `read_para` carries. [para_curve::read_parametric_curve]
+pub same-number : {b : List ℕ} {r : Read} {s : Unified} → ReadPromise b r → CurvePromise b s
+    → numberOfRead r ≡ numberOfUnified s
 same-number p q = p .number ∙ sym (q .number)
 
-pub curve-read : {b : List ℕ} {n : ℕ} {m : Numbers} {s : Unified} → ReadPromise b (Read.Parameters n m) → CurvePromise b s
+-- The curve is unified from the numbers that `read_para` reads. [para_curve::read_parametric_curve]
+pub curve-read : {b : List ℕ} {n : ℕ} {m : Numbers} {s : Unified} → ReadPromise b (Read.Parameters n m)
+    → CurvePromise b s
     → s ≡ Unified.Curve (unified (take n (map nearest (listed m))))
 curve-read {b} {n} {m} {s} p q =
     let g = granted-read b (Read.Parameters n m) p n m refl in
-    let made : valueOfUnified s ≡ unified (take n (map nearest (listed m))) = simp (g .verdict) at (q .value) ∙ ap unified (sym (floats-read b g)) in
+    let made : valueOfUnified s ≡ unified (take n (map nearest (listed m))) =
+    simp (g .verdict) at (q .value) ∙ ap unified (sym (floats-read b g)) in
     same-unified s (Unified.Curve (unified (take n (map nearest (listed m))))) (sym (same-number p q)) made
 
 -- 7, for a count that no curve has, cannot arise, whatever the tests come to
 no-seven : (p q r s t u : Bool)
-    → numberIn (rung p TagLength (rung q WrongSignature (rung r ReservedNotZero (rung s ReservedNotZero (rung t FunctionType (rung u TagLength granted)))))) ≡ 7 → ⊥
+    → numberIn (rung p TagLength (rung q WrongSignature
+    (rung r ReservedNotZero (rung s ReservedNotZero (rung t FunctionType (rung u TagLength granted)))))) ≡ 7 → ⊥
 no-seven false q r s t u e = omega arith
 no-seven true false r s t u e = omega arith
 no-seven true true false s t u e = omega arith
@@ -71,6 +87,7 @@ no-seven true true true true false u e = omega arith
 no-seven true true true true true false e = omega arith
 no-seven true true true true true true e = omega arith
 
+-- It is never refused with 7. [para_curve::read_parametric_curve]
 pub never-miscounted : {b : List ℕ} {r : Unified} → CurvePromise b r → numberOfUnified r ≡ 7 → ⊥
 unfolding tagVerdict
 never-miscounted {b} p e =

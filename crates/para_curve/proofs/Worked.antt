@@ -14,7 +14,8 @@ use Rattle.para.specs.Promises.{tagVerdict}
 use Rattle.para.proofs.Worked.{begun, three}
 use Rattle.para_curve.specs.Promises.{CurvePromise}
 
--- Read as a curve: 2, 1 and -0.5, and so d = 0.5. A number that no f32 holds is rounded to the even one of its two nearest.
+-- Read as a curve: 2, 1 and -0.5, and so d = 0.5. A number that no f32 holds is rounded to the even one of its two
+-- nearest.
 three-curve : CurvePromise three (Unified.Curve (record {
   g = ofBits binary32 0x4000_0000;
   a = ofBits binary32 0x3f80_0000;

@@ -1,4 +1,5 @@
--- How the promise is met, case by case; what an answer that keeps it tells; and that it names one answer and one later state. Assumes nothing.
+-- How the promise is met, case by case; what an answer that keeps it tells; and that it names one answer and one later
+-- state. Assumes nothing.
 use mathlib.Core.Path.{_≡_, _∙_, refl, sym, ap}
 use mathlib.Core.List.{List, _++_}
 use Prim.Native.Nat.{ℕ, _<_, _≤_}
@@ -21,13 +22,19 @@ module _ (t : ℕ) (m : Numbers) (out : List ℕ) where
   write-refusal : (why : Refusal) → writeVerdict t out ≡ refused why → WritePromise t m out (Done.Refused why) out
   write-refusal why e = record { number = simp e; after = simp e }
 
+  -- For a type above 4, refusing with 11 and leaving the buffer keeps the promise. [para_writer::write_para]
   pub write-untyped : 4 < t → WritePromise t m out (Done.Refused FunctionType) out
   write-untyped h = write-refusal FunctionType (rw (lt-leb _ _ h) refl)
 
-  pub write-misfit : t ≤ 4 → (length out ≡ tagLength (countOf t) → ⊥) → WritePromise t m out (Done.Refused OutputLength) out
+  -- With a buffer of another length, refusing with 6 and leaving it keeps the promise. [para_writer::write_para]
+  pub write-misfit : t ≤ 4 → (length out ≡ tagLength (countOf t) → ⊥)
+      → WritePromise t m out (Done.Refused OutputLength) out
   write-misfit h n = write-refusal OutputLength (rw (le-leb _ _ h, ne-eqb _ _ n) refl)
 
-  pub write-granted : {out′ : List ℕ} → t ≤ 4 → length out ≡ tagLength (countOf t) → out′ ≡ tagOf t m → WritePromise t m out Done.Yes out′
+  -- For a type of at most 4, a buffer of the tag's length that holds the tag keeps the promise.
+  -- [para_writer::write_para]
+  pub write-granted : {out′ : List ℕ} → t ≤ 4 → length out ≡ tagLength (countOf t) → out′ ≡ tagOf t m
+      → WritePromise t m out Done.Yes out′
   write-granted h e f =
       let g : writeVerdict t out ≡ granted = rw (le-leb _ _ h, eq-eqb _ _ e) refl in
       record { number = simp g; after = simp g f }
@@ -41,10 +48,12 @@ module _ (t : ℕ) (m : Numbers) (out : List ℕ) where
       ∙ ap (λ (l : List ℕ). l ++ inTurn bytes32 (take n (patterns m))) f
       ∙ ap (λ (k : ℕ). head t ++ inTurn bytes32 (take k (patterns m))) count)
 
+  -- A granted write had a type of at most 4, and its buffer then holds the tag. [para_writer::write_para]
   pub granted-write : {out′ : List ℕ} → WritePromise t m out Done.Yes out′ → (t ≤ 4) × (out′ ≡ tagOf t m)
   granted-write p =
       let g : writeVerdict t out ≡ granted = sym (same-verdict granted (writeVerdict t out) (p .number)) in
       (leb-true _ _ (rung-granted _ _ _ g .0), simp g at (p .after))
 
-pub write-one : {t : ℕ} {m : Numbers} {out out′ out″ : List ℕ} {r s : Done} → WritePromise t m out r out′ → WritePromise t m out s out″ → (r ≡ s) × (out′ ≡ out″)
+pub write-one : {t : ℕ} {m : Numbers} {out out′ out″ : List ℕ} {r s : Done} → WritePromise t m out r out′
+    → WritePromise t m out s out″ → (r ≡ s) × (out′ ≡ out″)
 write-one {r = r} {s = s} p q = (same-done r s (p .number ∙ sym (q .number)), p .after ∙ sym (q .after))

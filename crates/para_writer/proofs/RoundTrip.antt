@@ -1,4 +1,5 @@
--- What is written reads back the same, and tag bytes that are read are written back the same: of any calls that keep the promises. Assumes nothing.
+-- What is written reads back the same, and tag bytes that are read are written back the same: of any calls that keep
+-- the promises. Assumes nothing.
 use mathlib.Core.Path.{_≡_, _∙_, refl, sym, ap}
 use mathlib.Core.List.{List, _++_}
 use Prim.Native.Nat.{ℕ, _+_, _*_, _≤_, _<_}
@@ -33,20 +34,24 @@ use Rattle.para_writer.proofs.Promises.{write-granted, granted-write, w
 below32 : (b : List ℕ) → EightBits b → (i : ℕ) → be32 b i < 0x1_0000_0000
 below32 b w i = omega (arith, be32-halves b i, below16 b w i, below16 b w (i + 2))
 
--- the numbers of a tag are 32 bits wide
+-- The numbers of a tag are 32 bits wide. [para::read_para]
 pub numbers-wide : (b : List ℕ) → EightBits b → SignedBits (numbersOf b)
 unfolding numbersOf rawAt
-numbers-wide b w = used-wide (countOf (typeOf b)) (rawAt b) (λ k. signed-wide (be32 b (12 + 4 * k)) (below32 b w (12 + 4 * k)))
+numbers-wide b w =
+    used-wide (countOf (typeOf b)) (rawAt b) (λ k. signed-wide (be32 b (12 + 4 * k)) (below32 b w (12 + 4 * k)))
 
--- What is written reads back as its count and its numbers, those that were ignored as 0.
-pub written-reads : {t : ℕ} {m : Numbers} {out tag : List ℕ} {r : Read} → SignedBits m → WritePromise t m out Done.Yes tag → ReadPromise tag r
+-- What is written reads back as its count and its numbers, those that were ignored as 0. [para_writer::write_para,
+-- para::read_para]
+pub written-reads : {t : ℕ} {m : Numbers} {out tag : List ℕ} {r : Read} → SignedBits m
+    → WritePromise t m out Done.Yes tag → ReadPromise tag r
     → r ≡ Read.Parameters (countOf t) (used (countOf t) (placed m))
 written-reads {t} {m} {out} {tag} wide written p =
     let g = granted-write t m out written in
     let stated : tag ≡ tagOf t m = g .1 in
     let verdict : tagVerdict tag ≡ granted = rw stated (grants (tagOf t m) (tag-readable t m (g .0))) in
     let count : countOf t ≡ countOf (typeOf tag) = rw stated (ap countOf (sym (tag-type t m (g .0)))) in
-    let numbers : used (countOf t) (placed m) ≡ used (countOf t) (rawAt tag) = rw stated (sym (tag-numbers t m (g .0) wide)) in
+    let numbers : used (countOf t) (placed m) ≡ used (countOf t) (rawAt tag) =
+    rw stated (sym (tag-numbers t m (g .0) wide)) in
     read-one p (read-granted tag verdict count numbers)
 
 -- The first twelve bytes of a tag that passes the tests are those of its type,
@@ -67,14 +72,16 @@ module _ (b : List ℕ) (w : EightBits b) (ok : Readable b) where
       ∙ sym (take-add 8 4 b)
 
   -- the patterns of its numbers are its own,
-  patterns-read : take (countOf (typeOf b)) (patterns (numbersOf b)) ≡ tabulated (λ k. be32 b (12 + 4 * k)) (countOf (typeOf b))
+  patterns-read : take (countOf (typeOf b)) (patterns (numbersOf b))
+      ≡ tabulated (λ k. be32 b (12 + 4 * k)) (countOf (typeOf b))
   unfolding numbersOf rawAt
   patterns-read =
       let n = countOf (typeOf b) in
       first-used patternOf n (rawAt b) (count-most (typeOf b) (ok .known))
-      ∙ tabulated-same (λ k. patternOf (rawAt b k)) (λ k. be32 b (12 + 4 * k)) n (λ k h. pattern-signed (be32 b (12 + 4 * k)) (below32 b w (12 + 4 * k)))
+      ∙ tabulated-same (λ k. patternOf (rawAt b k)) (λ k. be32 b (12 + 4 * k)) n
+      (λ k h. pattern-signed (be32 b (12 + 4 * k)) (below32 b w (12 + 4 * k)))
 
-  -- and the whole is what is written for its type and its numbers.
+  -- A tag that passes the tests is what is written for its type and its numbers. [para::read_para]
   pub tag-rewritten : tagOf (typeOf b) (numbersOf b) ≡ b
   tag-rewritten =
       let n = countOf (typeOf b) in
@@ -85,8 +92,10 @@ module _ (b : List ℕ) (w : EightBits b) (ok : Readable b) where
       ∙ sym (take-add 12 (4 * n) b)
       ∙ take-all (12 + 4 * n) b (omega arith)
 
--- Tag bytes that are read are written back the same: by the type that has as many numbers, into a buffer of their length.
-pub read-writes : {b buffer b′ : List ℕ} {n t : ℕ} {m : Numbers} {r : Done} → EightBits b → ReadPromise b (Read.Parameters n m)
+-- Tag bytes that are read are written back the same: by the type that has as many numbers, into a buffer of their
+-- length. [para_writer::write_para, para::read_para]
+pub read-writes : {b buffer b′ : List ℕ} {n t : ℕ} {m : Numbers} {r : Done} → EightBits b
+    → ReadPromise b (Read.Parameters n m)
     → t ≤ 4 → countOf t ≡ n → length buffer ≡ length b → WritePromise t m buffer r b′
     → (r ≡ Done.Yes) × (b′ ≡ b)
 read-writes {b} {buffer} {n = n} {t = t} {m = m} w read known count e p =
@@ -98,14 +107,14 @@ read-writes {b} {buffer} {n = n} {t = t} {m = m} w read known count e p =
     let s = write-one p (write-granted t m buffer known room refl) in
     (s .0, s .1 ∙ ap (λ (u : ℕ). tagOf u m) type ∙ ap (tagOf (typeOf b)) (g .numbers) ∙ tag-rewritten b w ok)
 
--- What is written for numbers of 32 bits is eight bits wide,
+-- What is written for numbers of 32 bits is bytes, eight bits wide. [para_writer::write_para]
 pub written-eight : {t : ℕ} {m : Numbers} {out tag : List ℕ}
     → SignedBits m → WritePromise t m out Done.Yes tag → EightBits tag
 written-eight {t} {m} {out} wide written =
     let g = granted-write t m out written in
     rw (g .1) (tag-eight t m (g .0) wide)
 
--- and so, whatever a write answers, is the buffer after it, if it was before.
+-- Of numbers of 32 bits a write, whatever it answers, leaves bytes where bytes were. [para_writer::write_para]
 pub write-keeps-eight : {t : ℕ} {m : Numbers} {out out′ : List ℕ} {r : Done}
     → SignedBits m → EightBits out → WritePromise t m out r out′ → EightBits out′
 write-keeps-eight {t} {m} {out} {out′} wide eight p = go (writeVerdict t out) refl
@@ -115,8 +124,8 @@ write-keeps-eight {t} {m} {out} {out′} wide eight p = go (writeVerdict t out) 
         written-eight {t = t} {m = m} {out = out} wide (record { number = ap numberIn (sym e); after = p .after })
     go (refused why) e = rw (simp e at (p .after)) eight
 
--- So what was written is read, and written again the same, with nothing asked of its bytes: a write leaves what
--- `read-writes` asks for.
+-- What was written is read, and written again the same. Nothing is asked of its bytes: a write leaves what
+-- `read-writes` asks for. [para_writer::write_para]
 pub written-rewrites : {t u n : ℕ} {m m′ : Numbers} {out tag again tag′ : List ℕ} {r : Done} → SignedBits m
     → WritePromise t m out Done.Yes tag → ReadPromise tag (Read.Parameters n m′)
     → u ≤ 4 → countOf u ≡ n → length again ≡ length tag → WritePromise u m′ again r tag′

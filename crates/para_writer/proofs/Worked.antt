@@ -17,7 +17,8 @@ use Rattle.para_writer.specs.Promises.{WritePromise}
 use Rattle.para_writer.proofs.RoundTrip.{read-writes}
 
 -- A number that the type does not use is ignored.
-five-written : WritePromise 3 (raw (pos 157286) (pos 62119) (pos 3417) (pos 5072) (pos 2651) (pos 7) (negsuc 7)) (replicate 32 7) Done.Yes five
+five-written : WritePromise 3 (raw (pos 157286) (pos 62119) (pos 3417) (pos 5072) (pos 2651) (pos 7) (negsuc 7))
+    (replicate 32 7) Done.Yes five
 unfolding countOf head inTurn bytes16 bytes32 patternOf
 five-written = record { number = refl; after = refl }
 

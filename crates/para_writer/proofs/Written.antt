@@ -1,4 +1,5 @@
--- The bytes that are written for a type and seven numbers: the stores that make them, and what the tests and the readings say of them. Assumes nothing.
+-- The bytes that are written for a type and seven numbers: the stores that make them, and what the tests and the
+-- readings say of them. Assumes nothing.
 use mathlib.Core.Path.{_≡_, _∙_, refl, ap}
 use mathlib.Core.Logic.{⊎-elim}
 use mathlib.Core.List.{List, _++_}
@@ -19,7 +20,8 @@ use Rattle.icc.proofs.Words.{four-bytes, length-words, word-back}
 use Rattle.icc.proofs.Widths.{eight-append, eight-bytes16, eight-bytes32, eight-words, eight-opening}
 use Rattle.para.specs.declared.Numbers.{Numbers}
 use Rattle.para.specs.Signed.{signedOf}
-use Rattle.para.specs.Tag.{signature, typeOf, reservedAfter, countOf, tagLength, listed, placed, SignedBits, used, rawAt}
+use Rattle.para.specs.Tag.{signature, typeOf, reservedAfter, countOf, tagLength, listed, placed, SignedBits, used}
+use Rattle.para.specs.Tag.{rawAt}
 use Rattle.para.proofs.Counts.{count-most}
 use Rattle.para.proofs.Places.{used-same}
 use Rattle.para.proofs.Checks.{Readable}
@@ -51,9 +53,16 @@ module _ (t : ℕ) (m : Numbers) (known : t ≤ 4) where
   length-counted-out : length counted-out ≡ countOf t
   length-counted-out = length-take-le (countOf t) (patterns m) (count-most t known)
 
+  -- The tag of a type up to 4 has 12 bytes and four for each number. [para_writer::write_para]
   pub length-tag : length (tagOf t m) ≡ tagLength (countOf t)
   length-tag =
-      omega (arith, length-append (head t) (inTurn bytes32 counted-out), length-head t, length-words four-bytes counted-out, length-counted-out)
+      omega (
+        arith,
+        length-append (head t) (inTurn bytes32 counted-out),
+        length-head t,
+        length-words four-bytes counted-out,
+        length-counted-out,
+      )
 
   tag-signed : signatureOf (tagOf t m) ≡ signature
   unfolding head bytes16 bytes32
@@ -67,10 +76,12 @@ module _ (t : ℕ) (m : Numbers) (known : t ≤ 4) where
   unfolding head bytes16 bytes32
   tag-after = be16-bytes (opening signature ++ bytes16 t) 10 0 (inTurn bytes32 counted-out) refl
 
+  -- The tag's type is the one that was written. [para_writer::write_para]
   pub tag-type : typeOf (tagOf t m) ≡ t
   unfolding head bytes16 bytes32
   tag-type = be16-bytes (opening signature) 8 t (bytes16 0 ++ inTurn bytes32 counted-out) refl
 
+  -- The tag of a type up to 4 passes the six tests. [para_writer::write_para]
   pub tag-readable : Readable (tagOf t m)
   tag-readable = record {
     opened = record { twelve = omega (arith, length-tag); signed = tag-signed; zeros = tag-zeros; after = tag-after };
@@ -88,6 +99,8 @@ module _ (t : ℕ) (m : Numbers) (known : t ≤ 4) where
         ∙ List·getD-map patternOf (listed m) k (pos 0))
         ∙ signed-pattern (placed m k) (wide k)
 
+    -- The numbers that are read of the tag are those that were written, as many as the type uses.
+    -- [para_writer::write_para]
     pub tag-numbers : used (countOf t) (rawAt (tagOf t m)) ≡ used (countOf t) (placed m)
     tag-numbers = used-same (countOf t) (rawAt (tagOf t m)) (placed m) tag-raw
 

@@ -19,10 +19,12 @@ close-none [] = refl
 close-none (s ∷ src) = refl
 
 module _ (src dst : List Float) (i : ℕ) where
-  pub walk-on : i < length src → i < length dst → far (getD src i nan) (getD dst i nan) ≡ false → close (drop i src) (drop i dst) ≡ close (drop (i + 1) src) (drop (i + 1) dst)
+  pub walk-on : i < length src → i < length dst → far (getD src i nan) (getD dst i nan) ≡ false
+      → close (drop i src) (drop i dst) ≡ close (drop (i + 1) src) (drop (i + 1) dst)
   walk-on a b e = rw (add-one, drop-cons src i nan a, drop-cons dst i nan b) (simp e)
 
-  pub walk-stop : i < length src → i < length dst → far (getD src i nan) (getD dst i nan) ≡ true → close (drop i src) (drop i dst) ≡ false
+  pub walk-stop : i < length src → i < length dst → far (getD src i nan) (getD dst i nan) ≡ true
+      → close (drop i src) (drop i dst) ≡ false
   walk-stop a b e = rw (drop-cons src i nan a, drop-cons dst i nan b) (simp e)
 
   pub walk-end : min (length src) (length dst) ≤ i → close (drop i src) (drop i dst) ≡ true

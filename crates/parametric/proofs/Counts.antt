@@ -70,6 +70,7 @@ counts n k e h = rw e h
 counts-not : (n : ℕ) → (n ≡ 1 → ⊥) → (n ≡ 3 → ⊥) → (n ≡ 4 → ⊥) → (n ≡ 5 → ⊥) → (n ≡ 7 → ⊥) → counted n ≡ false
 counts-not n a b c d e = counted-last n a b c d ∙ ne-eqb n 7 e
 
+-- Document 01's sentences hold, field by field (`NewObeys`). [parametric::ParametricCurve::new]
 pub new-obeys : {params : List Float} {r : Unified} → NewPromise params r → NewObeys params r
 unfolding counted
 new-obeys {params} {r} p = record {

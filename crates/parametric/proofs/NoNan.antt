@@ -1,5 +1,5 @@
--- What every parameter is, 0 and 1 being so too, each field of the curve is but d = -b/a. So a field is a NaN where a
--- parameter is one, or where b and a have no quotient. Assumes nothing.
+-- A property that 0, 1 and every parameter have, each field of the curve has too, but for d = -b/a. So a field is a NaN
+-- only where a parameter is one, or where b and a have no quotient. Assumes nothing.
 use mathlib.Core.Path.{_≡_, _∙_, refl, sym, subst}
 use mathlib.Core.Logic.{_⊎_, inl, inr, ⊎-elim}
 use mathlib.Core.Bool.{Bool, true, false}
@@ -125,12 +125,12 @@ one-not : NotNan one
 unfolding isNan
 one-not = no-nan one refl
 
--- no field but d, where no parameter is one
+-- Where no parameter is a NaN, no field but d is one. [parametric::ParametricCurve::new]
 pub new-no-nan : {params : List Float} {r : Unified} → ((i : ℕ) → i < length params → NotNan (parameter params i))
     → NewPromise params r → Kept NotNan (length params) (valueOfUnified r)
 new-no-nan = new-kept NotNan zero-not one-not
 
--- and d only of three and of four, where a and b are both 0 or both infinite
+-- d is a NaN only of three and of four, where a and b are both 0 or both infinite. [parametric::ParametricCurve::new]
 pub new-d-nan : {n : ℕ} {y : ParametricCurve} → Kept NotNan n y → y .d ≡ nan
     → ((n ≡ 3) ⊎ (n ≡ 4)) × Unquotable (y .b) (y .a)
 new-d-nan {n} {y} k e =

@@ -17,22 +17,30 @@ use Rattle.parametric.specs.Unify.{parameter, ofOne, ofThree, ofFour, of
 use Rattle.parametric.specs.Promises.{numberOfUnified, valueOfUnified, NewPromise}
 
 module _ (l : List Float) {curve : ParametricCurve} where
+  -- Of one parameter the curve is `ofOne` of it. [parametric::ParametricCurve::new]
   pub one-makes : length l ≡ 1 → curve ≡ ofOne (parameter l 0) → curve ≡ unified l
   unfolding unified
   one-makes h e = e ∙ simp h
 
+  -- Of three parameters the curve is `ofThree` of them. [parametric::ParametricCurve::new]
   pub three-make : length l ≡ 3 → curve ≡ ofThree (parameter l 0) (parameter l 1) (parameter l 2) → curve ≡ unified l
   unfolding unified
   three-make h e = e ∙ simp h
 
-  pub four-make : length l ≡ 4 → curve ≡ ofFour (parameter l 0) (parameter l 1) (parameter l 2) (parameter l 3) → curve ≡ unified l
+  -- Of four parameters the curve is `ofFour` of them. [parametric::ParametricCurve::new]
+  pub four-make : length l ≡ 4 → curve ≡ ofFour (parameter l 0) (parameter l 1) (parameter l 2) (parameter l 3)
+      → curve ≡ unified l
   unfolding unified
   four-make h e = e ∙ simp h
 
-  pub five-make : length l ≡ 5 → curve ≡ ofFive (parameter l 0) (parameter l 1) (parameter l 2) (parameter l 3) (parameter l 4) → curve ≡ unified l
+  -- Of five parameters the curve is `ofFive` of them. [parametric::ParametricCurve::new]
+  pub five-make : length l ≡ 5
+      → curve ≡ ofFive (parameter l 0) (parameter l 1) (parameter l 2) (parameter l 3) (parameter l 4)
+      → curve ≡ unified l
   unfolding unified
   five-make h e = e ∙ simp h
 
+  -- Of seven parameters the curve is `ofSeven` of them. [parametric::ParametricCurve::new]
   pub seven-make : length l ≡ 7 → curve ≡ ofSeven l → curve ≡ unified l
   unfolding unified
   seven-make h e = e ∙ simp h
@@ -44,6 +52,7 @@ counted-last n a b c d = simp (ne-eqb n 1 a, ne-eqb n 3 b, ne-eqb n 4 c, ne-eqb 
 
 -- so a count that is none of the smaller ones is at least the next, and at last seven
 module _ (n : ℕ) (h : counted n ≡ true) where
+  -- A count that is allowed, and is not 1, 3, 4 or 5, is 7. [parametric::ParametricCurve::new]
   pub then-seven : (n ≡ 1 → ⊥) → (n ≡ 3 → ⊥) → (n ≡ 4 → ⊥) → (n ≡ 5 → ⊥) → n ≡ 7
   then-seven a b c d = eqb-true n 7 (sym (counted-last n a b c d) ∙ h)
 

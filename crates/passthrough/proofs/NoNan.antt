@@ -49,6 +49,7 @@ module _ (n : ℕ) (S : spanned n ≡ true) where
       let b = mul-bounded binary64 (float i) q i 1 (le-trans m (lit≤ tt)) (whole-bounded binary64 i k) quotient in
       narrow-keeps (mul binary64 (float i) q) ∙ bounded-no-nan (i * 1) (mul binary64 (float i) q) b
 
+-- What is filled holds no NaN. [passthrough::passthrough_table_impl]
 pub passthrough-no-nan : {o o′ : List Float} → PassthroughPromise o Done.Yes o′ → (i : ℕ) → i < length o′
     → getD o′ i nan ≡ nan → ⊥
 passthrough-no-nan {o} {o′} p i h =

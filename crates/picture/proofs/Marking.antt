@@ -1,4 +1,4 @@
--- How a column's reach tells which rows of the plot the curve passes. Assumes nothing.
+-- How a column's reach, its lowest and highest density, tells which rows of the plot the curve passes. Assumes nothing.
 use mathlib.Core.Path.{_≡_}
 use mathlib.Core.Bool.{false}
 use mathlib.Core.List.{List}

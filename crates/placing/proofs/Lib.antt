@@ -1,3 +1,3 @@
--- `Placing`: what follows from where a drive and a density are drawn. `Widening`: a span's reach with one drive more.
+-- `Placing`: laws on where a drive and a density are drawn. `Widening`: a span's reach with one drive more.
 pub mod Placing
 pub mod Widening

@@ -1,5 +1,5 @@
--- A bound on the power from above with nothing but A in it, where the factor (β + 1)/β that the roots may have cut off
--- is known to be small beside what is added to A. Assumes nothing.
+-- A bound on the power from above in terms of A alone. It holds where the factor (β + 1)/β, which the roots may have
+-- cut off, is small beside what is added to A. Assumes nothing.
 use Prim.Native.Nat.{ℕ, _+_, _*_, _^_, _≤_, _<_}
 use native.Mathlib.Nat.{mul-le-mul-left, mul-le-mul-right, le-trans, one-le-pow, pow-le-pow-left}
 use native.Mathlib.Nat.{le-of-mul-le-mul-right}
@@ -8,6 +8,7 @@ use Rattle.power.proofs.Arithmetic.{mul-pow}
 use Rattle.power.proofs.Kept.{Ended}
 
 module _ (U β p N w A Z : ℕ) (some : 0 < β) (e : Ended U β p N w A) where
+  -- U·(β/U)^(p/N) is at most Z, if Z is at least (A + 1 + w)·(β + 1)/β, with A the power after w whole steps. [power]
   pub power-le : (β + 1) * (A + (1 + w)) ≤ β * Z → β ^ p * U ^ N ≤ Z ^ N * U ^ p
   power-le l =
       let h : β ^ p * U ^ N * β ^ N ≤ (β * Z) ^ N * U ^ p
@@ -19,7 +20,7 @@ module _ (U β p N w A Z : ℕ) (some : 0 < β) (e : Ended U β p N w A) where
           let g : a * b * B ≤ c * d * B = omega arith in
           le-of-mul-le-mul-right g k
 
-  -- after one to four whole steps 11 are enough
+  -- After one to four whole steps U·(β/U)^(p/N) is at most 11 above the power. [power]
   pub power-le-11 : 0 < w → w ≤ 4 → A + 11 ≤ Z → β ^ p * U ^ N ≤ Z ^ N * U ^ p
   power-le-11 wp wl z =
       let a : A ≤ β = e .capped wp in

@@ -1,6 +1,6 @@
--- How near the power is to U·(β/U)^(p/N), from step to step, over any U whose square fits 64 bits, any β up to U and
--- any p. Each step cuts something off, so that A is never above, and what was cut off is held as a factor: of (β + 1)/β
--- for all the roots together, and of one more part of A for the roots and for each whole step. Assumes nothing.
+-- How near the power is to U·(β/U)^(p/N), step by step, for any U whose square fits 64 bits, any β up to U and any p.
+-- Each step rounds down, so A is never above it. What was cut off is made good by a factor (β + 1)/β for all the roots
+-- together, and by adding 1 to A for the roots and 1 for each whole step. Assumes nothing.
 use mathlib.Core.Path.{_≡_, refl, ap, _∙_, subst}
 use mathlib.Core.Bool.{Bool, true, false}
 use Prim.Native.Nat.{ℕ, zero, suc, _+_, _*_, _/_, _%_, _^_, _≤_, _<_}
@@ -198,6 +198,7 @@ module _ (U β p : ℕ) (b : β ≤ U) (fits : U * U < 18446744073709551616) (so
       }
   roots-kept (suc k) m r A s = roots-kept k (m + m) (r / 2) _ (turn-kept U β p b fits some m r A s)
 
+  -- The power is not above U·(β/U)^(p/65536), and how far below is bounded by its whole steps (`Ended`). [power]
   pub power-kept : Powered U β p 65536 (power U β p)
   unfolding power doubled
   power-kept = roots-kept 16 1 p U start

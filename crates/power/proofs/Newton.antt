@@ -23,7 +23,8 @@ squares a b =
     ordered : (a b : ℕ) → a ≤ b → 2 * (a * b) ≤ a * a + b * b
     ordered a b h = subst (λ (z : ℕ). 2 * (a * z) ≤ a * a + z * z) (le-dest h .1) (apart a (le-dest h .0))
 
--- with q for v / g and m for one more than the new guess: v < (q + 1)·g, and (g + q + 1)·g ≤ 2·m·g ≤ m·m + g·g
+-- A step from any guess above 0 is not below the root. With q for v / g and m for one more than the new guess: v < (q +
+-- 1)·g, and (g + q + 1)·g ≤ 2·m·g ≤ m·m + g·g. [power]
 pub step-above : (v g : ℕ) → 0 < g → v < ((g + v / g) / 2 + 1) * ((g + v / g) / 2 + 1)
 step-above v g pos = above (v / g) ((g + v / g) / 2 + 1) (lt-div-mul-add {a = v} pos) (omega arith)
   where
@@ -38,6 +39,7 @@ module _ (v g : ℕ) (h : v < g * g) where
   pub quotient-below : v / g < g
   quotient-below = div-lt-iff-lt-mul (guess-above v g h) .1 h
 
+  -- A step from a guess whose square is above v is smaller than the guess. [power]
   pub step-below : (g + v / g) / 2 < g
   step-below = omega (arith, quotient-below)
 
@@ -59,6 +61,7 @@ module _ (v m : ℕ) (few : m ≤ 64) (h : v < 2 ^ m) where
       = le-trans (pow-mono {i = m} {j = 32 + m / 2} (omega arith)) (le-of-eq (pow-add 2 32 (m / 2))) in
       div-lt-iff-lt-mul some .1 (lt-of-lt-of-le h wide)
 
+  -- The first guess is not below the root. [power]
   pub start-keeps : NotBelowRoot v ((2 ^ (m / 2) + v / 2 ^ (m / 2)) / 2)
   start-keeps = record {
     notBelow = step-above v (2 ^ (m / 2)) (one-le-pow (m / 2) 2 (lit< tt));

@@ -40,6 +40,7 @@ module _ (U β γ : ℕ) (some : 0 < U) (b : β ≤ γ) where
         let j = root-is (c * factor U γ r) few in
         roots-rise-on k (r / 2) _ _ (roots-rise i j under) (root-le U j (under-le U γ r c g u))
 
+    -- A larger base has no smaller power. [power]
     pub power-rises : (p : ℕ) → power U β p ≤ power U γ p
     unfolding power
     power-rises p = roots-rise-on 16 p U U (le-refl U) (le-refl U)
@@ -69,6 +70,7 @@ module _ (U : ℕ) (some : 0 < U) (fits : U * U < 18446744073709551616) where
       ∙ ap (rootSteps U U k (r / 2)) full-root
       ∙ roots-full k (r / 2)
 
+  -- The power of U is U. [power]
   pub power-full : (p : ℕ) → power U U p ≡ U
   unfolding power
   power-full p = roots-full 16 p
@@ -86,10 +88,12 @@ module _ (U : ℕ) (some : 0 < U) (fits : U * U < 18446744073709551616) where
       ∙ ap (λ (r : ℕ). rootSteps U β k r U) rest
       ∙ digits-none β k w
 
+  -- With the exponent 65536 the power is its base. [power]
   pub power-by-one : (β : ℕ) → power U β 65536 ≡ β
   unfolding power wholeSteps
   power-by-one β = digits-none β 16 1 ∙ mul-div-cancel-left β some
 
+-- The power of 0 is 0, with an exponent above 0. [power]
 pub power-of-zero : (U p N w A : ℕ) → 0 < U → 0 < p → Ended U 0 p N w A → A ≡ 0
 power-of-zero U p N w zero some pos e = refl
 power-of-zero U p N w (suc A) some pos e =

@@ -9,12 +9,14 @@ use lib.Dec.{leb}
 use Rattle.table.specs.Choice.{pick}
 use Rattle.power.specs.Root.{IsRoot, orOneMore, rootBelow, root}
 
+-- A larger number has no smaller root. [power]
 pub roots-rise : {v w r s : ℕ} → IsRoot v r → IsRoot w s → v ≤ w → r ≤ s
 roots-rise {v} {w} {r} {s} a b h =
     let no : (s < r → ⊥)
     = λ (l : s < r). let m : s + 1 ≤ r = omega arith in omega (arith, mul-le-mul m m, a .low, b .high) in
     omega arith
 
+-- A number has one whole root. [power]
 pub one-root : {v r s : ℕ} → IsRoot v r → IsRoot v s → r ≡ s
 one-root {v} a b = le-antisymm (roots-rise a b (le-refl v)) (roots-rise b a (le-refl v))
 
@@ -44,6 +46,7 @@ below-is (suc k) v h =
     let q : v / 4 < 4 ^ k = omega arith in
     from-quarter v (rootBelow k (v / 4)) (below-is k (v / 4) q)
 
+-- The definition is the whole root, of every number below 2^64. [power]
 pub root-is : (v : ℕ) → v < 18446744073709551616 → IsRoot v (root v)
 unfolding root
 root-is v h = below-is 32 v h

@@ -1,5 +1,5 @@
--- Document 02's bound from what is known of the power, over any number k of parts to a unit, M = k - 1 units for 1, and
--- N. Assumes nothing.
+-- Document 02's bound from what is known of the power, for any N and any number k of parts to a unit, where M = k - 1
+-- units stand for 1. Assumes nothing.
 use mathlib.Core.Path.{_≡_, sym, ap, subst}
 use mathlib.Core.Logic.{⊎-elim}
 use Prim.Native.Nat.{ℕ, zero, suc, _+_, _-_, _*_, _^_, _≤_, _<_}

@@ -62,7 +62,7 @@ module _ (n p : ℕ) (size : spanned n ≡ true) where
       rw (getD-tabulated (entryAt p n) n i 0 (omega arith), getD-tabulated (entryAt p n) n j 0 m)
       (value-rises p (ramp n i) (ramp n j) (ramp-rises n size i j ij) (omega (arith, ramp-fits n size j m)))
 
-  -- so accept grants it
+  -- Accept grants the table. [power_curve::power_table, power_curve::tag_power_table]
   pub table-accepted : AcceptPromise (sittingOn (tableOf p n)) Done.Yes (sittingOn (tableOf p n))
   table-accepted =
       let l : length (tableOf p n) ≡ n = length-tabulated (entryAt p n) n in
@@ -77,6 +77,8 @@ module _ (n p : ℕ) (size : spanned n ≡ true) where
     known : (t : TableIn n p out) → (t .answer ≡ Done.Yes) × (t .table ≡ tableOf p n)
     known t = power-table-granted size allowed l (t .kept)
 
+    -- It is granted, and has n entries, each the single value at its drive. [power_curve::power_table,
+    -- power_curve::tag_power_table]
     pub tables-obey : TablesObey n p out
     tables-obey = record {
       somewhere = record { answer = doneBy (powerTableVerdict out n p); table = _; kept = power-table-some out n p };
@@ -97,6 +99,8 @@ one-allowed = is-within 1 262144 65536 (lit≤ tt) (lit≤ tt)
 straight-table : (n : ℕ) → tableOf 65536 n ≡ rampOf n
 straight-table n = tabulated-same (entryAt 65536 n) (ramp n) n (λ i h. value-by-one (ramp n i))
 
+-- Of a gamma tag's entry 256 the curve is start on the same buffer, refused or not. [power_curve::power_table,
+-- power_curve::tag_power_table]
 pub straight-start : {out t : List ℕ} {r : Done} → PowerTablePromise out (length out) (exponentOf 256) r t →
     StartPromise (sittingOn out) r (sittingOn t)
 straight-start {out} {t} {r} a =
@@ -106,6 +110,7 @@ straight-start {out} {t} {r} a =
       table = a .after ∙ simp (one-allowed, e, straight-table (length out));
     }
 
+-- What document 02 asks of gamma curves holds, of whatever keeps the two promises. [power_curve]
 pub power-demand : PowerDemand
 power-demand = record {
   values = values-obey;

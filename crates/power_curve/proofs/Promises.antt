@@ -1,5 +1,5 @@
--- Each promise is met (`power-some`, `power-table-some`) and names one answer and one later buffer, refused calls too;
--- and what it tells whoever knows that n and the exponent are within their ranges. Assumes nothing.
+-- Each promise can be met (`power-some`, `power-table-some`) and names one answer and one later buffer, for refused
+-- calls too; and what it tells whoever knows that n and the exponent are within their ranges. Assumes nothing.
 use mathlib.Core.Path.{_≡_, _∙_, refl, sym}
 use mathlib.Core.Bool.{true}
 use mathlib.Core.List.{List}
@@ -17,7 +17,7 @@ use Rattle.power_curve.specs.Curve.{valueAt, tableOf}
 use Rattle.power_curve.specs.Promises.{allowedExponent, powerVerdict, PowerPromise, powerTableVerdict}
 use Rattle.power_curve.specs.Promises.{PowerTablePromise}
 
--- One value.
+-- The promise can be kept. [power_curve::power, power_curve::tag_power]
 pub power-some : (x : Drive) (p : ℕ) → PowerPromise x p (lookedBy (powerVerdict p) (valueAt p (x .0)))
 power-some x p = record { number = looked-number (powerVerdict p) _; value = looked-value (powerVerdict p) _ }
 
@@ -25,12 +25,13 @@ module _ {x : Drive} {p : ℕ} where
   pub power-one : {r s : Looked} → PowerPromise x p r → PowerPromise x p s → r ≡ s
   power-one {r} {s} a b = same-looked r s (a .number ∙ sym (b .number)) (a .value ∙ sym (b .value))
 
-  -- within its range the exponent is granted, and the answer is the value
+  -- An exponent in its range is granted, and the answer is the defined value. [power_curve::power,
+  -- power_curve::tag_power]
   pub power-granted : {r : Looked} → allowedExponent p ≡ true → PowerPromise x p r →
       (numberOfLooked r ≡ 0) × (valueOfLooked r ≡ valueAt p (x .0))
   power-granted h a = (a .number ∙ simp h, a .value ∙ simp h)
 
--- A table.
+-- The promise can be kept. [power_curve::power_table, power_curve::tag_power_table]
 pub power-table-some : (out : List ℕ) (n p : ℕ) →
     PowerTablePromise out n p (doneBy (powerTableVerdict out n p))
     (ifGranted (powerTableVerdict out n p) (tableOf p n) out)
@@ -41,6 +42,8 @@ module _ {out : List ℕ} {n p : ℕ} where
       (r ≡ s) × (t ≡ u)
   power-table-one {r} {s} a b = (same-done r s (a .number ∙ sym (b .number)), a .after ∙ sym (b .after))
 
+  -- With n, exponent and output as they must be it is granted, and the output is the curve. [power_curve::power_table,
+  -- power_curve::tag_power_table]
   pub power-table-granted : {r : Done} {t : List ℕ} → spanned n ≡ true → allowedExponent p ≡ true → length out ≡ n →
       PowerTablePromise out n p r t → (r ≡ Done.Yes) × (t ≡ tableOf p n)
   power-table-granted {r} h k l a =

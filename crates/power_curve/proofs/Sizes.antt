@@ -1,4 +1,4 @@
--- How large what is added before the last division is. Assumes nothing.
+-- The size of what is added before the last division. Assumes nothing.
 use mathlib.Core.Path.{_≡_}
 use mathlib.Core.Logic.{⊎-elim}
 use Prim.Native.Nat.{ℕ, _≤_, _<_}

@@ -7,6 +7,7 @@ use Rattle.table.proofs.Choice.{same-test}
 use Rattle.power_curve.specs.Curve.{exponentOf}
 use Rattle.power_curve.specs.Promises.{allowedExponent}
 
+-- A gamma tag's entry k may be 1 to 1,024. [power_curve::tag_power, power_curve::tag_power_table]
 pub entry-range : (k : ℕ) → allowedExponent (exponentOf k) ≡ within 1 1024 k
 unfolding within
 entry-range k =

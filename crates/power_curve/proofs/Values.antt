@@ -1,5 +1,6 @@
--- The curve's value: it meets document 02's bound, never falls, is at most 65535, and its ends; with an exponent of 1
--- it is x. The laws that these rest on are over variables, and here the numbers are put in. Assumes nothing.
+-- The curve's value: it meets document 02's bound, never falls, and is at most 65535; what it is at both ends; and with
+-- an exponent of 1 it is x. The laws that these rest on are over variables; here the numbers are put in. Assumes
+-- nothing.
 use mathlib.Core.Path.{_≡_, refl, ap, _∙_}
 use Prim.Native.Nat.{ℕ, _+_, _*_, _/_, _≤_, _<_}
 use native.Mathlib.Nat.{mul-le-mul-right, le-refl, add-le-add, div-mul-le-self, lt-div-mul-add}
@@ -24,6 +25,8 @@ few-wholes part w p e h = omega arith
 no-whole : (part w p : ℕ) → part + 65536 * w ≡ p → part < 65536 → w ≡ 0 → p < 65536
 no-whole part w p e h z = omega arith
 
+-- The value is within one of 65535·(x/65535)^(p/65536), which is document 02's bound. [power_curve::power,
+-- power_curve::tag_power]
 pub value-near : (p x : ℕ) → x ≤ 65535 → 0 < p → p ≤ 262144 → Near 65536 65535 p x (valueAt p x)
 unfolding valueAt
 value-near p x h pos few =
@@ -37,6 +40,7 @@ value-near p x h pos few =
     rounds-up : (p : ℕ) → p < 65536 → added p + 1 ≡ 65536
     rounds-up p h = omega (arith, added-up p h)
 
+-- The value is at most 65535. [power_curve::power, power_curve::tag_power]
 pub value-le : (p x : ℕ) → x ≤ 65535 → valueAt p x ≤ 65535
 unfolding valueAt
 value-le p x h = whole _ (added p) (known x p h .ended .below) (added-size p .0)
@@ -44,6 +48,7 @@ value-le p x h = whole _ (added p) (known x p h .ended .below) (added-size p .0)
     whole : (a u : ℕ) → a ≤ 4294901760 → u < 65536 → (a + u) / 65536 ≤ 65535
     whole a u l s = omega arith
 
+-- The value never falls as x rises. [power_curve::power, power_curve::tag_power]
 pub value-rises : (p x y : ℕ) → x ≤ y → y ≤ 65535 → valueAt p x ≤ valueAt p y
 unfolding valueAt
 value-rises p x y l h =
@@ -54,6 +59,7 @@ value-rises p x y l h =
     (power-rises 4294901760 (x * 65536) (y * 65536) (lit< tt) xy most (lit< tt) p)
     (le-refl (added p)))
 
+-- At x = 0 the value is 0. [power_curve::power, power_curve::tag_power]
 pub value-first : (p : ℕ) → 0 < p → valueAt p 0 ≡ 0
 unfolding valueAt
 value-first p pos =
@@ -64,6 +70,7 @@ value-first p pos =
     none : (u : ℕ) → u < 65536 → (0 + u) / 65536 ≡ 0
     none u s = omega arith
 
+-- At x = 65535 the value is 65535. [power_curve::power, power_curve::tag_power]
 pub value-last : (p : ℕ) → valueAt p 65535 ≡ 65535
 unfolding valueAt
 value-last p =
@@ -73,6 +80,7 @@ value-last p =
     full : (u : ℕ) → u < 65536 → (4294901760 + u) / 65536 ≡ 65535
     full u s = omega arith
 
+-- With the exponent 65536 the value is x. [power_curve::power, power_curve::tag_power]
 pub value-by-one : (x : ℕ) → valueAt 65536 x ≡ x
 unfolding valueAt
 value-by-one x =

@@ -22,8 +22,10 @@ min-one a b = a .value ∙ sym (b .value)
 pub abs-one : {x r s : Float} → AbsPromise x r → AbsPromise x s → r ≡ s
 abs-one a b = a .value ∙ sym (b .value)
 
+-- Two floors of one number are equal. [rounding]
 pub floor-one : {x : Float} {r s : ℕ} → FloorPromise x r → FloorPromise x s → r ≡ s
 floor-one a b = a .value ∙ sym (b .value)
 
+-- Two ceils of one number are equal. [rounding]
 pub ceil-one : {x : Float} {r s : ℕ} → CeilPromise x r → CeilPromise x s → r ≡ s
 ceil-one a b = a .value ∙ sym (b .value)

@@ -1,4 +1,5 @@
--- When an answer of this crate is a NaN: where an argument is one, and of a fixed-point number never. Assumes nothing.
+-- When an answer of this crate is a NaN: where an argument is one. A fixed-point number never gives one. Assumes
+-- nothing.
 use mathlib.Core.Path.{_≡_, refl, sym, ap, _∙_}
 use mathlib.Core.Bool.{Bool, true, false, _||_, cond, true≢false}
 use Prim.Native.Nat.{ℕ, suc, _*_, _^_, _<_}
@@ -23,6 +24,7 @@ nan-is : isNan nan ≡ true
 unfolding isNan
 nan-is = refl
 
+-- It is a NaN only of a NaN. [rounding::nearest_f64_to_f32]
 pub narrow-nan-of : {x r : Float} → NarrowPromise x r → r ≡ nan → x ≡ nan
 narrow-nan-of {x} p e = is-nan x (sym (narrow-keeps x) ∙ ap isNan (sym (p .value) ∙ e) ∙ nan-is)
 
@@ -32,6 +34,7 @@ abs-keeps nan = refl
 abs-keeps (inf s) = refl
 abs-keeps (fin s m e) = refl
 
+-- It is a NaN only of a NaN. [rounding::abs_f32, rounding::abs_f64]
 pub abs-nan-of : {x r : Float} → AbsPromise x r → r ≡ nan → x ≡ nan
 abs-nan-of {x} p e = is-nan x (sym (abs-keeps x) ∙ ap isNan (sym (p .value) ∙ e) ∙ nan-is)
 
@@ -51,6 +54,7 @@ minimum-nan (fin s m d) bound e = go (lt bound (fin s m d)) refl e
     go true h e = absurd (true≢false (sym h ∙ ap (λ (y : Float). lt y (fin s m d)) e))
     go false h e = absurd (no-nan (fin s m d) refl e)
 
+-- It is a NaN only of two NaNs. [rounding::min_f32]
 pub min-nan-of : {x bound r : Float} → MinPromise x bound r → r ≡ nan → (x ≡ nan) × (bound ≡ nan)
 min-nan-of {x} {bound} p e = minimum-nan x bound (sym (p .value) ∙ e)
 
@@ -60,9 +64,11 @@ unfolding ratio
 ratio-no-nan (pos n) d = round-no-nan binary32 _ n d
 ratio-no-nan (negsuc n) d = round-no-nan binary32 _ (suc n) d
 
+-- It is never a NaN. [rounding::u8_fixed_8number_to_float]
 pub u8-no-nan : {x : ℕ} {r : Float} → U8Fixed8Promise x r → r ≡ nan → ⊥
 u8-no-nan {x} {r} p = no-nan r (ap isNan (p .value) ∙ ratio-no-nan (pos x) 256)
 
+-- It is never a NaN. [rounding::s15_fixed16_number_to_float]
 pub s15-no-nan : {x : ℤ} {r : Float} → S15Fixed16Promise x r → r ≡ nan → ⊥
 s15-no-nan {x} {r} p = no-nan r (ap isNan (p .value) ∙ ratio-no-nan x 65536)
 

@@ -30,9 +30,10 @@ min-over x bound h k = record { value = sym (ap₂ (λ (t u : Bool). cond (t || 
 
 pub min-itself : (x bound : Float) → ne x x ≡ false → lt bound x ≡ false → MinPromise x bound x
 unfolding minimum
-min-itself x bound h k = record { value = sym (ap₂ (λ (t u : Bool). cond (t || u) bound x) (differs-is-nan x false h) k) }
+min-itself x bound h k =
+    record { value = sym (ap₂ (λ (t u : Bool). cond (t || u) bound x) (differs-is-nan x false h) k) }
 
--- a number that is not below 0, cut off at k, is from 0 to k
+-- Of an x that is not below 0 and a whole bound k it is from 0 to k. [rounding::min_f32]
 pub min-upto : (k : ℕ) (x : Float) → lt x nought ≡ false → T (upto k (minimum x (whole k)))
 unfolding minimum
 min-upto k x h = go (isNan x) (lt (whole k) x) refl refl
@@ -44,7 +45,8 @@ min-upto k x h = go (isNan x) (lt (whole k) x) refl refl
     go true u e g = bound-in
     go false true e g = bound-in
     go false false e g =
-        let out : (false || (false || false)) ≡ not (upto k x) = sym (ap₂ (λ (a b : Bool). a || b) e (ap₂ (λ (a b : Bool). a || b) h g)) ∙ outside-is k x in
+        let out : (false || (false || false)) ≡ not (upto k x) =
+        sym (ap₂ (λ (a b : Bool). a || b) e (ap₂ (λ (a b : Bool). a || b) h g)) ∙ outside-is k x in
         subst T (sym (not-false (upto k x) (sym out))) tt
 
 -- ---- the size
@@ -57,8 +59,13 @@ from-zero f (inf false) F h = absurd h
 from-zero f (fin s zero e) F h = zero-plus-zero f false (not s) (pos 0) e ∙ sym (zero-is-null f false e F)
 from-zero f (fin false (suc m) e) F h = absurd (positive-not-under m e h)
 from-zero f (fin true (suc m) e) F h =
-    add-of f nought (fin false (suc m) e) false 0 1 (suc m * up e) (down e) (pow-pos 0) (down-pos e) (refl, refl) (refl, refl)
-    ∙ round-id f (fin false (suc m) e) false (0 * down e + suc m * up e * 1) (1 * down e) F (mul-pos (pow-pos 0) (down-pos e)) (refl, ap₂ (λ (a b : ℕ). a * b) (sym (kept (suc m * up e) (down e))) (one-mul (down e)))
+    add-of f nought (fin false (suc m) e) false 0 1 (suc m * up e) (down e) (pow-pos 0) (down-pos e)
+    (refl, refl) (refl, refl)
+    ∙ round-id f (fin false (suc m) e) false (0 * down e + suc m * up e * 1) (1 * down e) F
+    (mul-pos (pow-pos 0) (down-pos e)) (
+      refl,
+      ap₂ (λ (a b : ℕ). a * b) (sym (kept (suc m * up e) (down e))) (one-mul (down e)),
+    )
   where
     kept : (n d : ℕ) → 0 * d + n * 1 ≡ n
     kept n d = omega arith
@@ -69,8 +76,11 @@ above-zero nan h = refl
 above-zero (inf true) h = absurd (true≢false h)
 above-zero (inf false) h = refl
 above-zero (fin false m e) h = refl
-above-zero (fin true zero e) h = absurd (true≢false (sym (is-true (le (fin true zero e) nought) (zeros-ordered true false e (pos 0))) ∙ h))
-above-zero (fin true (suc m) e) h = absurd (true≢false (sym (is-true (le (fin true (suc m) e) nought) (or-left (lt (fin true (suc m) e) nought) (eq (fin true (suc m) e) nought) (negative-under m e))) ∙ h))
+above-zero (fin true zero e) h =
+    absurd (true≢false (sym (is-true (le (fin true zero e) nought) (zeros-ordered true false e (pos 0))) ∙ h))
+above-zero (fin true (suc m) e) h =
+    absurd (true≢false (sym (is-true (le (fin true (suc m) e) nought)
+    (or-left (lt (fin true (suc m) e) nought) (eq (fin true (suc m) e) nought) (negative-under m e))) ∙ h))
 
 -- with the constant 0.0 as a program has it
 module _ (f : Format) (x : Float) where

@@ -6,8 +6,10 @@ use Rattle.table.specs.declared.Done.{Done}
 use Rattle.table.proofs.Answers.{same-done}
 use Rattle.rows.specs.Promises.{RowPromise, BakePromise}
 
-pub row-one : {t positions out out′ out″ : List ℕ} {r s : Done} → RowPromise t positions out r out′ → RowPromise t positions out s out″ → (r ≡ s) × (out′ ≡ out″)
+pub row-one : {t positions out out′ out″ : List ℕ} {r s : Done} → RowPromise t positions out r out′
+    → RowPromise t positions out s out″ → (r ≡ s) × (out′ ≡ out″)
 row-one {r = r} {s = s} a b = (same-done r s (a .number ∙ sym (b .number)), a .after ∙ sym (b .after))
 
-pub bake-one : {t out out′ out″ : List ℕ} {r s : Done} → BakePromise t out r out′ → BakePromise t out s out″ → (r ≡ s) × (out′ ≡ out″)
+pub bake-one : {t out out′ out″ : List ℕ} {r s : Done} → BakePromise t out r out′ → BakePromise t out s out″
+    → (r ≡ s) × (out′ ≡ out″)
 bake-one {r = r} {s = s} a b = (same-done r s (a .number ∙ sym (b .number)), a .after ∙ sym (b .after))

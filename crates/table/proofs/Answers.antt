@@ -1,5 +1,5 @@
--- An answer's number and value tell the whole answer, so that a promise of both names one answer; and the answer that a call's tests come to.
--- Assumes nothing.
+-- An answer's number and value tell the whole answer, so a promise of both names one answer; and the answer that a
+-- call's tests lead to. Assumes nothing.
 use mathlib.Core.Path.{_≡_, _∙_, refl, sym, ap}
 use Prim.Native.Nat.{ℕ}
 use native.Mathlib.Omega.{arith}
@@ -11,18 +11,21 @@ use Rattle.table.specs.declared.Sought.{Sought}
 use Rattle.table.specs.declared.Refusal.{Refusal}
 use Rattle.table.proofs.Refusals.{same-refusal, number-above, same-verdict}
 
+-- An answer that has no value is known by its number. [table]
 pub same-done : (r s : Done) → numberOfDone r ≡ numberOfDone s → r ≡ s
 same-done Done.Yes Done.Yes e = refl
 same-done Done.Yes (Done.Refused b) e = absurd (omega (arith, number-above b))
 same-done (Done.Refused a) Done.Yes e = absurd (omega (arith, number-above a))
 same-done (Done.Refused a) (Done.Refused b) e = ap Done.Refused (same-refusal a b e)
 
+-- A looked-up answer is known by its number and its value. [table]
 pub same-looked : (r s : Looked) → numberOfLooked r ≡ numberOfLooked s → valueOfLooked r ≡ valueOfLooked s → r ≡ s
 same-looked (Looked.At a) (Looked.At b) e v = ap (λ (n : ℕ). Looked.At (record { 0 = n })) v
 same-looked (Looked.At a) (Looked.Refused b) e v = absurd (omega (arith, number-above b))
 same-looked (Looked.Refused a) (Looked.At b) e v = absurd (omega (arith, number-above a))
 same-looked (Looked.Refused a) (Looked.Refused b) e v = ap Looked.Refused (same-refusal a b e)
 
+-- A sought answer is known by its number and its value. [table]
 pub same-sought : (r s : Sought) → numberOfSought r ≡ numberOfSought s → valueOfSought r ≡ valueOfSought s → r ≡ s
 same-sought (Sought.At a) (Sought.At b) e v = ap (λ (n : ℕ). Sought.At (record { 0 = n })) v
 same-sought (Sought.At a) (Sought.Refused b) e v = absurd (omega (arith, number-above b))
@@ -74,5 +77,6 @@ pub sought-value : (w : Verdict) (p : ℕ) → valueOfSought (soughtBy w p) ≡ 
 sought-value granted p = refl
 sought-value (refused why) p = refl
 
-pub sought-is : {r : Sought} (w : Verdict) (p : ℕ) → numberOfSought r ≡ numberIn w → valueOfSought r ≡ ifGranted w p 0 → r ≡ soughtBy w p
+pub sought-is : {r : Sought} (w : Verdict) (p : ℕ) → numberOfSought r ≡ numberIn w → valueOfSought r ≡ ifGranted w p 0
+    → r ≡ soughtBy w p
 sought-is {r} w p n v = same-sought r (soughtBy w p) (n ∙ sym (sought-number w p)) (v ∙ sym (sought-value w p))

@@ -1,4 +1,4 @@
--- What a test tells that is made of others, or that a call answered. Assumes nothing.
+-- What is known from a test that is made of others, and from a test that a call answered. Assumes nothing.
 use mathlib.Core.Path.{_≡_, _∙_, refl, sym}
 use mathlib.Core.Logic.{_⊎_, inl, inr}
 use mathlib.Core.Bool.{Bool, true, false, not}

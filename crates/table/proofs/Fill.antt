@@ -1,4 +1,5 @@
--- A list given entry by entry: its length, its entries, and a buffer on the way to it, one entry set at each step. Assumes nothing.
+-- A list given entry by entry: its length, its entries, and a buffer on the way to it, one entry set at each step.
+-- Assumes nothing.
 use mathlib.Core.Path.{_≡_, _∙_, refl, sym, ap}
 use mathlib.Core.Logic.{⊎-elim}
 use mathlib.Core.List.{List, [], _∷_, _++_, append-assoc, append-nil}
@@ -11,11 +12,13 @@ use lib.Seq.{drop-cons, drop-length, set-at, getD-at}
 use Rattle.table.specs.Fill.{tabulated}
 
 module _ {A : Type 0} (f : ℕ → A) where
+  -- The filled list of n has n entries. [table]
   pub length-tabulated : (n : ℕ) → length (tabulated f n) ≡ n
   unfolding tabulated
   length-tabulated zero = refl
   length-tabulated (suc n) = simp (length-append, length-tabulated n) (omega arith)
 
+  -- Entry i of the filled list is f i. [table]
   pub getD-tabulated : (n i : ℕ) (d : A) → i < n → getD (tabulated f n) i d ≡ f i
   unfolding tabulated
   getD-tabulated zero i d h = absurd (not-suc-le-zero h)
@@ -46,8 +49,8 @@ module _ {A : Type 0} (f : ℕ → A) where
   unfolding filled
   filled-all l = rw drop-length (append-nil (tabulated f (length l)))
 
-  -- The invariant of a loop that fills a buffer from its first entry on: after i entries it holds the rule's, and beyond them what it held.
-  -- A loop's proof needs these laws of it and nothing else.
+  -- The invariant of a loop that fills a buffer from its first entry on: after i entries it holds the rule's, and
+  -- beyond them what it held. A loop's proof needs these laws of it and nothing else.
   pub record Filling (old : List A) (i : ℕ) (buffer : List A) : Type 0 where
     pub inside : i ≤ length old
     pub size : length buffer ≡ length old

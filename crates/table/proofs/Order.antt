@@ -1,5 +1,5 @@
--- The test `nondecreasing` and the fact `Nondecreasing`, each from the other; a walk over a table that makes the test; and what setting one entry keeps.
--- Assumes nothing.
+-- The test `nondecreasing` and the fact `Nondecreasing`, each from the other; a walk over a table that makes the test;
+-- and what holds after one entry is set. Assumes nothing.
 use mathlib.Core.Path.{_≡_, _∙_, refl, sym, ap, subst}
 use mathlib.Core.Logic.{⊎-elim}
 use mathlib.Core.Bool.{true, false}
@@ -12,7 +12,8 @@ use borrow.Author.Tests.{leb-true, le-leb, lt-leb, lt-ltb, le-ltb}
 use lib.ListN.{length, getD, set, drop, length-set}
 use lib.Seq.{drop-cons, drop-length, getD-set-same, getD-set-other, set-out}
 use lib.Dec.{leb}
-use Rattle.table.specs.Order.{nondecreasingFrom, nondecreasing, Nondecreasing, SixteenBits, notBelowLeft, notAboveRight, suits}
+use Rattle.table.specs.Order.{nondecreasingFrom, nondecreasing, Nondecreasing, SixteenBits, notBelowLeft}
+use Rattle.table.specs.Order.{notAboveRight, suits}
 use Rattle.table.proofs.Choice.{both-left, both-right, same?, below?}
 
 -- x is above no entry after it
@@ -30,7 +31,7 @@ from-test x [] e (suc i) (suc j) ij h = absurd (not-suc-le-zero (le-of-suc-le-su
 from-test x (y ∷ l) e (suc i) (suc j) ij h =
     from-test y l (both-right (leb x y) _ e) i j (le-of-suc-le-suc ij) (le-of-suc-le-suc h)
 
--- where the test holds, so does the fact
+-- Where the test holds, of any two entries the later is not below the earlier. [table::in_order]
 pub test-fact : (t : List ℕ) → nondecreasing t ≡ true → Nondecreasing t
 test-fact [] e i j ij h = absurd (not-suc-le-zero h)
 test-fact (x ∷ l) e i j ij h = from-test x l e i j ij h
@@ -44,21 +45,23 @@ to-test x [] f = refl
 to-test x (y ∷ l) f =
     simp (le-leb x y (f 0 (suc-le-suc (suc-le-suc zero-le)))) (to-test y l (λ i h. f (suc i) (suc-le-suc h)))
 
--- neighbours in order are enough for the test
+-- Neighbours in order are enough for the test. [table::in_order]
 pub neighbours-test : (t : List ℕ) → Neighbourly t → nondecreasing t ≡ true
 neighbours-test [] f = refl
 neighbours-test (x ∷ l) f = to-test x l f
 
--- where the fact holds, so does the test
+-- Where of any two entries the later is not below the earlier, the test holds. [table::in_order]
 pub fact-test : (t : List ℕ) → Nondecreasing t → nondecreasing t ≡ true
 fact-test t R = neighbours-test t (λ i h. R i (suc i) (le-suc i) h)
 
--- A walk over the table: what is left to test after i entries, the last of which is x. At the start x is 0, and no entry is below that.
+-- A walk over the table: what is left to test after i entries, the last of which is x. At the start x is 0, and no
+-- entry is below that.
 pub walk-start : (t : List ℕ) → nondecreasingFrom 0 (drop 0 t) ≡ nondecreasing t
 walk-start [] = refl
 walk-start (x ∷ l) = simp (le-leb 0 x zero-le)
 
-pub walk-on : (t : List ℕ) (i x : ℕ) → i < length t → x ≤ getD t i 0 → nondecreasingFrom x (drop i t) ≡ nondecreasingFrom (getD t i 0) (drop (i + 1) t)
+pub walk-on : (t : List ℕ) (i x : ℕ) → i < length t → x ≤ getD t i 0
+    → nondecreasingFrom x (drop i t) ≡ nondecreasingFrom (getD t i 0) (drop (i + 1) t)
 walk-on t i x h le = rw (add-one, drop-cons t i 0 h) (simp (le-leb x (getD t i 0) le))
 
 pub walk-stop : (t : List ℕ) (i x : ℕ) → i < length t → getD t i 0 < x → nondecreasingFrom x (drop i t) ≡ false
@@ -85,7 +88,8 @@ module _ (t : List ℕ) (i x : ℕ) where
   unfolding notAboveRight
   right-is h = simp (lt-ltb (i + 1) (length t) h)
 
--- Setting entry i to an x that suits keeps a nondecreasing table nondecreasing: of each two neighbours either is x, or neither is.
+-- Setting entry i to an x that suits keeps a nondecreasing table nondecreasing: of each two neighbours either is x, or
+-- neither is.
 module _ (t : List ℕ) (i x : ℕ) (R : Nondecreasing t) (h : i < length t) (s : suits t i x ≡ true) where
   left-le : 0 < i → getD t (i - 1) 0 ≤ x
   left-le p = leb-true _ x (sym (left-is t i x p) ∙ both-left (notBelowLeft t i x) (notAboveRight t i x) s)
@@ -117,10 +121,11 @@ module _ (t : List ℕ) (i x : ℕ) (R : Nondecreasing t) (h : i < length t) (s 
   pub set-test : nondecreasing (set t i x) ≡ true
   set-test = neighbours-test (set t i x) (λ j p. step j (subst (λ (n : ℕ). suc j < n) (length-set t i x) p))
 
+  -- Setting an entry that fits between its neighbours keeps a table nondecreasing. [table, nudge::nudge]
   pub set-keeps-order : Nondecreasing (set t i x)
   set-keeps-order = test-fact (set t i x) set-test
 
--- and setting an entry to a 16-bit number keeps every entry 16 bits wide
+-- Setting an entry to a 16-bit number keeps every entry 16 bits wide. [table]
 pub set-keeps-bits : (t : List ℕ) (i x : ℕ) → SixteenBits t → x < 65536 → SixteenBits (set t i x)
 set-keeps-bits t i x b h j = ⊎-elim here (λ n. omega (arith, getD-set-other t i j x 0 n, b j)) (same? j i)
   where

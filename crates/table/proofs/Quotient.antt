@@ -1,9 +1,11 @@
--- The quotient rounded up: what it is by what is left over, where it lies, and the one fact that makes it the least
--- number of times that is enough. And a quotient never falls, and a product is parted in two. Assumes nothing.
+-- The quotient rounded up: what it is with a remainder and without, its bounds, and the one fact that makes it the
+-- least number of times that is enough. Also: a quotient never falls, and a product is split in two. Assumes nothing.
 use mathlib.Core.Path.{_≡_, _∙_, sym, ap}
 use mathlib.Core.Logic.{⊎-elim, _↔_}
 use Prim.Native.Nat.{ℕ, _+_, _-_, _*_, _/_, _%_, _≤_, _<_}
-use native.Mathlib.Nat.{mul-add, add-sub-of-le, add-mul, mod-lt, mul-comm, div-le-of-le-mul, div-add-mod', eq-zero-or-pos, lt-of-mul-lt-mul-right, le-mul-of-pos-right, mul-le-mul-right, le-trans, div-mul-le-self, le-div-iff-mul-le}
+use native.Mathlib.Nat.{mul-add, add-sub-of-le, add-mul, mod-lt, mul-comm, div-le-of-le-mul, div-add-mod'}
+use native.Mathlib.Nat.{eq-zero-or-pos, lt-of-mul-lt-mul-right, le-mul-of-pos-right, mul-le-mul-right, le-trans}
+use native.Mathlib.Nat.{div-mul-le-self, le-div-iff-mul-le}
 use native.Mathlib.Omega.{arith}
 use borrow.Author.Tests.{lt-ltb, le-ltb}
 use Rattle.table.specs.Quotient.{divCeil}
@@ -26,7 +28,7 @@ module _ (v cap : ℕ) where
   pub ceil-le : {m : ℕ} → v / cap < m → divCeil v cap ≤ m
   ceil-le h = ⊎-elim (λ e. omega (arith, ceil-on e)) (λ p. omega (arith, ceil-off p)) (eq-zero-or-pos (v % cap))
 
-  -- it is at most x exactly if x times cap is enough
+  -- The quotient of v by cap, rounded up, is at most x exactly if v is at most x times cap. [table]
   pub ceil-le-iff : (x : ℕ) → 0 < cap → (divCeil v cap ≤ x) ↔ (v ≤ x * cap)
   ceil-le-iff x pos = (enough, least)
     where
@@ -35,7 +37,13 @@ module _ (v cap : ℕ) where
           let m = mul-le-mul-right cap h in
           ⊎-elim
           (λ e. omega (arith, div-add-mod' v cap, ap (λ (n : ℕ). n * cap) (ceil-on e)))
-          (λ p. omega (arith, div-add-mod' v cap, mod-lt v pos, ap (λ (n : ℕ). n * cap) (ceil-off p), add-mul (v / cap) 1 cap))
+          (λ p. omega (
+            arith,
+            div-add-mod' v cap,
+            mod-lt v pos,
+            ap (λ (n : ℕ). n * cap) (ceil-off p),
+            add-mul (v / cap) 1 cap,
+          ))
           (eq-zero-or-pos (v % cap))
 
       least : v ≤ x * cap → divCeil v cap ≤ x

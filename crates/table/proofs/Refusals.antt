@@ -8,7 +8,11 @@ use lib.ListN.{getD}
 use lib.Dec.{lit<}
 use Rattle.table.specs.Refusals.{numberOf, Verdict, granted, refused, rung, andThen, numberIn}
 use Rattle.table.specs.declared.Refusal.{Refusal}
-use Rattle.table.specs.declared.Refusal.the-variants.{TableLength, NotNondecreasing, IndexBeyond, OutsideNeighbours, AboveLast, OutputLength, ParameterCount, TagLength, WrongSignature, ReservedNotZero, FunctionType, OutsideRange, OutsideUnit, LogFull, NothingToTakeBack, BadLog, Exponent}
+use Rattle.table.specs.declared.Refusal.the-variants.{TableLength, NotNondecreasing, IndexBeyond}
+use Rattle.table.specs.declared.Refusal.the-variants.{OutsideNeighbours, AboveLast, OutputLength, ParameterCount}
+use Rattle.table.specs.declared.Refusal.the-variants.{TagLength, WrongSignature, ReservedNotZero, FunctionType}
+use Rattle.table.specs.declared.Refusal.the-variants.{OutsideRange, OutsideUnit, LogFull, NothingToTakeBack}
+use Rattle.table.specs.declared.Refusal.the-variants.{BadLog, Exponent}
 
 -- by their numbers, from 1 on; none has the number 14, so any may stand in its place
 refusals : List Refusal
@@ -57,11 +61,11 @@ named-number NothingToTakeBack = refl
 named-number BadLog = refl
 named-number Exponent = refl
 
--- no two refusals have one number
+-- No two refusals have one number. [table::number]
 pub same-refusal : (a b : Refusal) → numberOf a ≡ numberOf b → a ≡ b
 same-refusal a b e = sym (named-number a) ∙ ap named e ∙ named-number b
 
--- and none has the number 0
+-- No refusal has the number 0. [table::number]
 pub number-above : (why : Refusal) → 0 < numberOf why
 number-above TableLength = lit< tt
 number-above NotNondecreasing = lit< tt
@@ -88,7 +92,8 @@ same-verdict (refused a) granted e = absurd (omega (arith, number-above a))
 same-verdict (refused a) (refused b) e = ap refused (same-refusal a b e)
 
 -- a call is granted only where every rung holds
-pub rung-granted : (test : Bool) (why : Refusal) (rest : Verdict) → rung test why rest ≡ granted → (test ≡ true) × (rest ≡ granted)
+pub rung-granted : (test : Bool) (why : Refusal) (rest : Verdict) → rung test why rest ≡ granted →
+    (test ≡ true) × (rest ≡ granted)
 rung-granted true why rest e = (refl, e)
 rung-granted false why rest e = let z : _≡_ {A = ℕ} 0 1 = cc in absurd (omega arith)
 

@@ -22,8 +22,7 @@ module _ (y : ℕ) where
   unfolding run
   stops x l n = simp (ne-eqb x y n)
 
-  -- what the run is: it goes no further than the list, its entries all equal y, and where it stops before the end
-  -- stands another number
+  -- A run goes no further than the list. [table, degeneration::is_curve_degenerated]
   pub run-within : (l : List ℕ) → run y l ≤ length l
   unfolding run
   run-within [] = zero-le
@@ -33,16 +32,19 @@ module _ (y : ℕ) where
       (λ (n : x ≡ y → ⊥). omega (arith, stops x l n))
       (same? x y)
 
+  -- The entries of a run all equal the number that it is of. [table, degeneration::is_curve_degenerated]
   pub run-equal : (l : List ℕ) (i : ℕ) → i < run y l → getD l i 0 ≡ y
   unfolding run
   run-equal [] i h = absurd (not-suc-le-zero h)
-  run-equal (x ∷ l) zero h = ⊎-elim (λ (e : x ≡ y). e) (λ (n : x ≡ y → ⊥). absurd (omega (arith, stops x l n))) (same? x y)
+  run-equal (x ∷ l) zero h =
+      ⊎-elim (λ (e : x ≡ y). e) (λ (n : x ≡ y → ⊥). absurd (omega (arith, stops x l n))) (same? x y)
   run-equal (x ∷ l) (suc i) h =
       ⊎-elim
       (λ (e : x ≡ y). run-equal l i (omega (arith, goes-on x l e)))
       (λ (n : x ≡ y → ⊥). absurd (omega (arith, stops x l n)))
       (same? x y)
 
+  -- Where a run stops before the end, another number stands. [table, degeneration::is_curve_degenerated]
   pub run-stops : (l : List ℕ) → run y l < length l → getD l (run y l) 0 ≡ y → ⊥
   unfolding run
   run-stops [] h e = not-suc-le-zero h
@@ -52,9 +54,11 @@ module _ (y : ℕ) where
       (λ (n : x ≡ y → ⊥). n (rw (stops x l n) at e))
       (same? x y)
 
-  -- and no other number is so
-  pub run-is : (l : List ℕ) (i : ℕ) → i ≤ length l → ((k : ℕ) → k < i → getD l k 0 ≡ y) → (i < length l → getD l i 0 ≡ y → ⊥) → i ≡ run y l
-  run-is l i h e s = ⊎-elim short (λ le. ⊎-elim long (λ ge. le-antisymm ge le) (below? (run y l) i)) (below? i (run y l))
+  -- Only the run is so: that many first entries are equal, and the next one is not. [table]
+  pub run-is : (l : List ℕ) (i : ℕ) → i ≤ length l → ((k : ℕ) → k < i → getD l k 0 ≡ y)
+      → (i < length l → getD l i 0 ≡ y → ⊥) → i ≡ run y l
+  run-is l i h e s =
+      ⊎-elim short (λ le. ⊎-elim long (λ ge. le-antisymm ge le) (below? (run y l) i)) (below? i (run y l))
     where
       short : i < run y l → i ≡ run y l
       short lt = absurd (s (omega (arith, run-within l)) (run-equal l i lt))
@@ -82,7 +86,7 @@ module _ {y : ℕ} {l : List ℕ} where
     pub counting-end : length l ≤ i → i ≡ run y l
     counting-end h = run-is y l i (s .inside) (s .sofar) (λ (m : i < length l). absurd (omega arith))
 
--- a table read from its end
+-- A table reversed is the table read from its end. [table]
 pub getD-reverse : (t : List ℕ) (i : ℕ) → i < length t → getD (reverse t) i 0 ≡ getD t (length t - 1 - i) 0
 getD-reverse [] i h = absurd (not-suc-le-zero h)
 getD-reverse (x ∷ l) i h =

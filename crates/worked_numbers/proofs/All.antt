@@ -15,8 +15,11 @@ use Rattle.inverse_start.specs.Start.{leadingZeros, trailingTops, zeroAtOnce, f
 use Rattle.inverse.specs.Inverse.{search, searched, inverted}
 use Rattle.worked_numbers.specs.Thirteen.{Thirteen}
 
+-- Each of document 01's thirteen numbers is an answer that its promise names. [worked_numbers]
 pub thirteen : Thirteen
-unfolding within tabulated weighted lookup16 gammaUnit gamma ramp first leastOf inverted searched search firstRight firstLeft zeroAtOnce trailingTops leadingZeros run tail between rounded nodeOf cellOf abs ceil floor ofInt round neg add sub mul div lt le
+unfolding within tabulated weighted lookup16 gammaUnit gamma ramp first leastOf inverted searched search firstRight
+    firstLeft zeroAtOnce trailingTops leadingZeros run tail between rounded nodeOf cellOf abs ceil floor ofInt round neg
+    add sub mul div lt le
 thirteen = record {
   case-1 = record { number = refl; value = refl };
   case-2 = record { number = refl; value = refl };

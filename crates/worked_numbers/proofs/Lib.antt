@@ -1,2 +1,2 @@
--- `All`: they are the numbers that the definitions give.
+-- `All`: the definitions give these numbers.
 pub mod All
