@@ -14,7 +14,7 @@
 static void must(uint32_t refusal, const char *what)
 {
     if (refusal != BG_DONE) {
-        fprintf(stderr, "%s was refused: number %u\n", what, (unsigned)refusal);
+        fprintf(stderr, "%s was refused with %u, %s\n", what, (unsigned)refusal, bg_refusal_text(refusal));
         exit(1);
     }
 }
@@ -29,7 +29,8 @@ int main(void)
     }
 
     /* The tag: "curv", four zero bytes, how many entries, and the entries, big-endian. */
-    const uint8_t tag[] = {'c', 'u', 'r', 'v', 0, 0, 0, 0, 0, 0, 0, 5, 0x00, 0x00, 0x23, 0x28, 0x75, 0x30, 0xcb, 0x20, 0xff, 0xff};
+    const uint8_t tag[] = {'c', 'u', 'r', 'v', 0, 0, 0, 0, 0, 0, 0, 5,
+                           0x00, 0x00, 0x23, 0x28, 0x75, 0x30, 0xcb, 0x20, 0xff, 0xff};
 
     /* Ask how many entries there are, lend a buffer of exactly that many, and read them. */
     bg_count count = bg_curv_count(tag, sizeof tag);
@@ -60,7 +61,7 @@ int main(void)
     printf("taken back to %u; what stands is entry %u, from %u to %u\n", (unsigned)table[2], (unsigned)log[0].index,
            (unsigned)log[0].old_entry, (unsigned)log[0].new_entry);
 
-    /* A drive in, a density out. They are two types, so that neither is written in the other's column. */
+    /* A drive in, a density out. They are two types, so that neither is taken for the other. */
     bg_drive half = {32768};
     bg_sample sample = bg_lut_interp_linear16(table, n, half);
     must(sample.refusal, "looking up");

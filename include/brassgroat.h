@@ -1,33 +1,38 @@
 /*
  * Brassgroat: the tone curve part of a photo lab's grey box. The face for C and C++, of 2011 or later.
  *
- * Every call is proved to keep its promise (crates/brassgroat, and the crates that the headings name). Link
- * target/staticlib/libbrassgroat.a, which `rt staticlib brassgroat` writes, for x86-64 Linux; it needs no other library.
+ * Every call is proved to keep its promise (crates/brassgroat, and the crates that the headings name).
+ *
+ * A program links libbrassgroat.a, which is for x86-64 Linux and needs no other library. A release has it in lib/. In
+ * the project `rt staticlib brassgroat` proves it and writes it into target/staticlib, and `./install PREFIX` puts it
+ * into PREFIX/lib. Where PKG_CONFIG_PATH names the release's lib/pkgconfig or PREFIX/lib/pkgconfig:
+ *
+ *     cc -o program program.c $(pkg-config --cflags --libs brassgroat)
  *
  * What holds for every call:
  *
- * - It takes any input at all. It answers, or it refuses with one of the seventeen numbers of `enum bg_refusal`. A
- *   refused answer has 0 in every other place, and a refused call has changed no buffer. Where several refusals apply,
- *   the one that is listed first at the call is given.
+ * - It takes any input at all. It answers, or it refuses with one of the numbers of `enum bg_refusal`, and
+ *   `bg_refusal_text` says in words what the number means. A refused answer has 0 in every other place, and a refused
+ *   call has changed no buffer. Where several refusals apply, the one that is listed first at the call is given.
  * - A buffer is a pointer and a count of its ELEMENTS, not bytes. The pointer must be aligned for its type and good for
  *   that many elements; it may be null only where the count is 0. A log is always BG_LOG_PLACES records; the
  *   `count` beside it is one number, which says how many nudges stand, not how long the log is. An output buffer must
- *   not overlap another buffer of the same call; buffers that are only read may overlap each other. This much C's
- *   caller must see to, and the environment of floats: nothing else can go wrong.
- * - It keeps no state, allocates nothing, and writes to its output buffers alone. Threads may call it at will, as long as no buffer that
- *   one call writes is used by another.
+ *   not overlap another buffer of the same call; buffers that are only read may overlap each other. A caller must see
+ *   to this much and to the floating-point environment (below): nothing else can go wrong.
+ * - It keeps no state, allocates nothing, and writes to its output buffers alone. Threads may call it at will, as long
+ *   as no buffer that one call writes is used by another.
  * - A NaN among the answers may have any NaN's bits.
  * - The floating-point environment is the caller's. Eight calls work in floats and promise their answers in the default
  *   one alone: round to nearest, no flush to zero, no traps. A program linked with -ffast-math starts in another. They
  *   are bg_lut_interp_linear_float, bg_lut_interp_linear, bg_passthrough_table_impl, bg_parametric_curve_new,
  *   bg_compare_parametric, bg_para_curve, and bg_lut_inverse_interp16 and bg_invert_lut, which work in doubles inside.
- *   Flushed to zero, bg_lut_interp_linear_float in {0, 0x1p-149f} at 0.5f is 0 for 0x1p-149f; rounded down,
- *   bg_lut_inverse_interp16 in {0, 8286, 24858, 47388} of 31617 is 50243 for 50244. All other calls answer the same in
- *   every environment. No call changes it but for its exception flags.
+ *   With flush to zero bg_lut_interp_linear_float in {0, 0x1p-149f} at 0.5f is 0 and not 0x1p-149f; rounding down,
+ *   bg_lut_inverse_interp16 in {0, 8286, 24858, 47388} of 31617 is 50243 and not 50244. All other calls answer the same
+ *   in every environment. No call changes it but for its exception flags.
  *
- * A position, the input side of a curve, is a drive; a sample, the output side, is a density. Both are 16 bits wide. They are
- * two types, so that neither is written in the other's column: looking up takes a drive and gives a density, and both inverses
- * take a density and give a drive. Tables hold densities. A table has 1 to 65,536 entries.
+ * A position, the input side of a curve, is a drive; a sample, the output side, is a density. Both are 16 bits wide.
+ * They are two types, so that neither is taken for the other: looking up takes a drive and gives a density, and both
+ * inverses take a density and give a drive. Tables hold densities. A table has 1 to 65,536 entries.
  */
 #ifndef BRASSGROAT_H
 #define BRASSGROAT_H
@@ -47,27 +52,89 @@ extern "C" {
  */
 #define BG_VERSION 400
 
-/* Why a call is refused; 0 is no refusal. Later versions may have further numbers; 14 is given by no call yet. */
+/*
+ * Why a call is refused; 0 is no refusal. Later versions may have further numbers. What each means stands below, in
+ * bg_refusal_text.
+ */
 enum bg_refusal {
     BG_DONE = 0,
-    BG_TABLE_LENGTH = 1,        /* the table's length is 0 or above 65,536 (where a call says so: only above; below 2 or above) */
-    BG_NOT_NONDECREASING = 2,   /* an entry of the table is below the one before it */
-    BG_INDEX_BEYOND = 3,        /* the index is beyond the table, or the gamma lookup's input is at or above `inputs` */
-    BG_OUTSIDE_NEIGHBOURS = 4,  /* the nudged entry would be below its left or above its right neighbour */
-    BG_ABOVE_LAST = 5,          /* the density is above the last entry: no position reaches it */
-    BG_OUTPUT_LENGTH = 6,       /* the output buffer is not exactly as long as needed */
-    BG_PARAMETER_COUNT = 7,     /* a parametric curve has 1, 3, 4, 5 or 7 parameters */
-    BG_TAG_LENGTH = 8,          /* the tag has fewer than 12 bytes, or the wrong total length */
-    BG_WRONG_SIGNATURE = 9,     /* the tag has another signature */
-    BG_RESERVED_NOT_ZERO = 10,  /* a reserved byte of the tag is not zero */
-    BG_FUNCTION_TYPE = 11,      /* the function type is above 4 */
-    BG_OUTSIDE_RANGE = 12,      /* `inputs`, `depth`, or the length of an inverted or a passthrough table is outside its range */
-    BG_OUTSIDE_UNIT = 13,       /* the input of bg_lut_interp_linear is a NaN, below 0 or above 1 */
-    BG_LOG_FULL = 15,           /* BG_LOG_PLACES nudges stand in the log */
-    BG_NOTHING_TO_TAKE_BACK = 16, /* no nudge stands in the log */
-    BG_BAD_LOG = 17,            /* the count is above BG_LOG_PLACES, or the nudge to take back is not this table's */
-    BG_EXPONENT = 18            /* a gamma curve's exponent is outside 1 to 262,144, or by a tag's entry 1 to 1,024 */
+    BG_TABLE_LENGTH = 1,
+    BG_NOT_NONDECREASING = 2,
+    BG_INDEX_BEYOND = 3,
+    BG_OUTSIDE_NEIGHBOURS = 4,
+    BG_ABOVE_LAST = 5,
+    BG_OUTPUT_LENGTH = 6,
+    BG_PARAMETER_COUNT = 7,
+    BG_TAG_LENGTH = 8,
+    BG_WRONG_SIGNATURE = 9,
+    BG_RESERVED_NOT_ZERO = 10,
+    BG_FUNCTION_TYPE = 11,
+    BG_OUTSIDE_RANGE = 12,
+    BG_OUTSIDE_UNIT = 13,
+    BG_LOG_FULL = 15,
+    BG_NOTHING_TO_TAKE_BACK = 16,
+    BG_BAD_LOG = 17,
+    BG_EXPONENT = 18
 };
+
+/*
+ * What a refusal's number means: what is wrong, and after the colon what to do. It has a text for every number at all.
+ * The Rust crate has the same texts (bindings/rust/src/refusal.rs), which face/test compares.
+ */
+static inline const char *bg_refusal_text(uint32_t refusal)
+{
+    switch (refusal) {
+    case BG_DONE:
+        return "done";
+    case BG_TABLE_LENGTH:
+        return "the table's length is 0 or above 65,536 (a start and a gamma curve need 2 at least; a curv tag, a "
+               "verdict and lut_interp_linear take 0 as well): use a length within these bounds";
+    case BG_NOT_NONDECREASING:
+        return "the table is not nondecreasing, as an entry is below the one before it: put its entries in order";
+    case BG_INDEX_BEYOND:
+        return "the index is beyond the table, or the gamma lookup's input is at or above its number of inputs: "
+               "give an index below the table's length, or an input below that number";
+    case BG_OUTSIDE_NEIGHBOURS:
+        return "the nudged entry would be below its left or above its right neighbour: "
+               "give a density from the left neighbour's to the right one's, or nudge those first";
+    case BG_ABOVE_LAST:
+        return "the density is above the table's last entry, so that no position reaches it: "
+               "ask for one that is not above the last entry";
+    case BG_OUTPUT_LENGTH:
+        return "the output buffer is not exactly as long as needed: lend one of the length that the call asks for";
+    case BG_PARAMETER_COUNT:
+        return "a parametric curve cannot have this number of parameters: give it 1, 3, 4, 5 or 7";
+    case BG_TAG_LENGTH:
+        return "the tag has fewer than 12 bytes, or not the total length that its count or function type asks for: "
+               "give the whole tag, and no byte more";
+    case BG_WRONG_SIGNATURE:
+        return "the tag has another signature: read it by the call for its kind of tag";
+    case BG_RESERVED_NOT_ZERO:
+        return "a reserved byte of the tag is not zero, so the tag is damaged or of another kind: get a sound one";
+    case BG_FUNCTION_TYPE:
+        return "the function type is above 4: use one of the types 0 to 4, which are all that ICC.1 has";
+    case BG_OUTSIDE_RANGE:
+        return "the gamma lookup's number of inputs is outside 2 to 65,536 or its depth outside 1 to 16, or the length "
+               "of an inverted or a passthrough table is outside 2 to 65,536: give a number within its range";
+    case BG_OUTSIDE_UNIT:
+        return "the input of lut_interp_linear is a NaN, below 0 or above 1: give one from 0 to 1";
+    case 14:
+        return "a number that no call of this version gives: see the header of the archive that gave it";
+    case BG_LOG_FULL:
+        return "the log is full, as 63 nudges stand in it: take one back, or start or accept anew, which empties it";
+    case BG_NOTHING_TO_TAKE_BACK:
+        return "there is nothing to take back, as no nudge stands in the log: nudge first";
+    case BG_BAD_LOG:
+        return "the log's count is above 63, or on a take-back its last nudge does not go with the table (a damaged "
+               "log, another table, or a table changed by other means): "
+               "lend this table's own log, or start or accept anew, which empties the log";
+    case BG_EXPONENT:
+        return "the gamma curve's exponent is 0 or above 4: "
+               "give 1 to 262,144 in 65536ths, or by a gamma tag's entry 1 to 1,024 in 256ths";
+    default:
+        return "a number that this version has no text for: see the header of the archive that gave it";
+    }
+}
 
 /* A position, and a sample. */
 typedef struct { uint16_t value; } bg_drive;
@@ -119,8 +186,8 @@ uint32_t bg_version(void);
 bg_sample bg_lut_interp_linear16(const uint16_t *table, size_t table_len, bg_drive position);
 
 /*
- * The densities at a row of drives: out[i] is bg_lut_interp_linear16 at positions[i]. One load for each where the table has
- * 65,536 entries. Refused: 1; 6 where out_len is not positions_len.
+ * The densities at a row of drives: out[i] is bg_lut_interp_linear16 at positions[i]. In a table of 65,536 entries, as
+ * bg_bake makes it, each costs one load. Refused: 1; 6 where out_len is not positions_len.
  */
 uint32_t bg_lut_interp_linear16_row(const uint16_t *table, size_t table_len,
                                     const uint16_t *positions, size_t positions_len,
@@ -133,10 +200,12 @@ uint32_t bg_lut_interp_linear16_row(const uint16_t *table, size_t table_len,
 uint32_t bg_bake(const uint16_t *table, size_t table_len, uint16_t *out, size_t out_len);
 
 /*
- * The integer gamma lookup: of `inputs` inputs from 0 on, the one given, as a code of `depth` bits. The code may be 2^depth.
- * Refused: 1; 12 where `inputs` is outside 2 to 65,536 or `depth` outside 1 to 16; 3 where `input` is not below `inputs`.
+ * The integer gamma lookup: of `inputs` inputs from 0 on, the one given, as a code of `depth` bits. The code may be
+ * 2^depth. Refused: 1; 12 where `inputs` is outside 2 to 65,536 or `depth` outside 1 to 16; 3 where `input` is not
+ * below `inputs`.
  */
-bg_code bg_lut_interp_linear_gamma_impl(const uint16_t *table, size_t table_len, size_t inputs, size_t depth, size_t input);
+bg_code bg_lut_interp_linear_gamma_impl(const uint16_t *table, size_t table_len, size_t inputs, size_t depth,
+                                        size_t input);
 
 /* ---- Working on a curve (crates curve and nudge) ---- */
 
@@ -196,8 +265,8 @@ uint32_t bg_take_back(uint16_t *table, size_t table_len, bg_record *log, size_t 
 bg_position bg_least_input(const uint16_t *table, size_t table_len, bg_density density);
 
 /*
- * The least inputs of a row of densities: out[i] is bg_least_input of densities[i], or 65,536, which is no position, where that
- * would be refused with 5. Refused: 1; 6 where out_len is not densities_len; 2.
+ * The least inputs of a row of densities: out[i] is bg_least_input of densities[i], or 65,536, which is no position,
+ * where that would be refused with 5. Refused: 1; 6 where out_len is not densities_len; 2.
  */
 uint32_t bg_least_input_row(const uint16_t *table, size_t table_len,
                             const uint16_t *densities, size_t densities_len,
@@ -207,8 +276,8 @@ uint32_t bg_least_input_row(const uint16_t *table, size_t table_len,
 bg_position bg_lut_inverse_interp16(const uint16_t *table, size_t table_len, bg_density density);
 
 /*
- * The table inverted by bg_lut_inverse_interp16: out[i] is the drive for the density i * (65535 / (out_len - 1)), worked in
- * doubles and rounded. Refused: 1; 12 where out_len is outside 2 to 65,536.
+ * The table inverted by bg_lut_inverse_interp16: out[i] is the drive for the density i * (65535 / (out_len - 1)),
+ * worked in doubles and rounded. Refused: 1; 12 where out_len is outside 2 to 65,536.
  */
 uint32_t bg_invert_lut(const uint16_t *table, size_t table_len, uint16_t *out, size_t out_len);
 
@@ -218,8 +287,8 @@ uint32_t bg_invert_lut(const uint16_t *table, size_t table_len, uint16_t *out, s
 bg_real bg_lut_interp_linear_float(const float *table, size_t table_len, float x);
 
 /*
- * The float, where 1 stands for 65535, at x from 0 to 1 in a table of 16-bit entries. An empty table answers x as the nearest float.
- * Refused: 1 where table_len is above 65,536; 13 where x is a NaN, below 0 or above 1.
+ * The float, where 1 stands for 65535, at x from 0 to 1 in a table of 16-bit entries. An empty table answers x as the
+ * nearest float. Refused: 1 where table_len is above 65,536; 13 where x is a NaN, below 0 or above 1.
  */
 bg_real bg_lut_interp_linear(const uint16_t *table, size_t table_len, double x);
 
@@ -240,32 +309,39 @@ float bg_s15_fixed16_number_to_float(int32_t x);
 
 /* ---- Parametric curves (crate parametric) ---- */
 
-/* The curve unified from 1, 3, 4, 5 or 7 parameters in the order g a b c d e f (of four: g a b, and e = f). Refused: 7. */
+/*
+ * The curve unified from 1, 3, 4, 5 or 7 parameters in the order g a b c d e f (of four: g a b, and e = f).
+ * Refused: 7.
+ */
 bg_parametric bg_parametric_curve_new(const float *params, size_t params_len);
 
 /*
- * Whether no two parameters at one place are further apart than 1e-4f, over the shorter length; a NaN difference counts as close.
- * Never refused.
+ * Whether no two parameters at one place are further apart than 1e-4f, over the shorter length; a NaN difference counts
+ * as close. Never refused.
  */
 bool bg_compare_parametric(const float *src, size_t src_len, const float *dst, size_t dst_len);
 
 /* ---- Verdicts (crates monotonic and degeneration) ---- */
 
 /*
- * Whether fewer than one entry in twenty steps against the direction, and how many do: falls where `rising`, else rises.
- * Yes below two entries. Refused: 1 where table_len is above 65,536.
+ * Whether the curve is monotonic, and how many violations it has. Monotonic: 20 * violations < entries, or fewer than
+ * two entries. A violation is an entry below the one before it where `rising`, else an entry above the one before it.
+ * Refused: 1 where table_len is above 65,536.
  */
 bg_monotony bg_is_curve_monotonic(const uint16_t *table, size_t table_len, bool rising);
 
 /*
- * Whether the run equal to the first entry or the run equal to the last has at least 20 entries. No below two entries.
- * Refused: 1 where table_len is above 65,536.
+ * Whether the curve is degenerated: the run of entries equal to the first, or of those equal to the last, has at least
+ * 20 entries. Refused: 1 where table_len is above 65,536.
  */
 bg_degeneration bg_is_curve_degenerated(const uint16_t *table, size_t table_len);
 
 /* ---- The house curve, 1,024 entries, gamma 2.5 (crate house) ---- */
 
-/* One entry. Whoever wants many fills a buffer, which costs no more than one of these. Refused: 3 where index is above 1,023. */
+/*
+ * One entry. Whoever wants many fills a buffer, which costs no more than one of these.
+ * Refused: 3 where index is above 1,023.
+ */
 bg_sample bg_house_entry(size_t index);
 
 /* All entries. Refused: 6 where out_len is not 1,024. */
@@ -311,11 +387,11 @@ bg_sample bg_tag_power(bg_drive x, uint16_t gamma);
  */
 uint32_t bg_tag_power_table(uint16_t *out, size_t out_len, size_t n, uint16_t gamma);
 
-/* ---- ICC tags (crates curv, curv_reader, curv_part, curv_writer, para, para_curve and para_writer); tag_len counts bytes ---- */
+/* ---- ICC tags (crates curv, curv_reader, curv_part, curv_writer, para, para_curve and para_writer) ---- */
 
 /*
- * How many entries a curv tag has. Refused: 8 where the tag has fewer than 12 bytes; 9; 10; 1 where the count is above 65,536;
- * 8 where the tag is not exactly 12 + 2 * count bytes long.
+ * How many entries a curv tag has; as in all of these calls, tag_len counts bytes. Refused: 8 where the tag has fewer
+ * than 12 bytes; 9; 10; 1 where the count is above 65,536; 8 where the tag is not exactly 12 + 2 * count bytes long.
  */
 bg_count bg_curv_count(const uint8_t *tag, size_t tag_len);
 
@@ -323,8 +399,8 @@ bg_count bg_curv_count(const uint8_t *tag, size_t tag_len);
 uint32_t bg_curv_read(const uint8_t *tag, size_t tag_len, uint16_t *out, size_t out_len);
 
 /*
- * Where a curv tag's entries lie: they are the `len` bytes at tag + start, big-endian, and no copy. Refused: as bg_curv_count.
- * A granted part may be empty, so look at the number.
+ * Where a curv tag's entries lie: they are the `len` bytes at tag + start, big-endian, and no copy. A granted part may
+ * be empty, so look at the number. Refused: as bg_curv_count.
  */
 bg_part bg_curv_part(const uint8_t *tag, size_t tag_len);
 
@@ -335,8 +411,8 @@ bg_part bg_curv_part(const uint8_t *tag, size_t tag_len);
 uint32_t bg_curv_write(const uint16_t *table, size_t table_len, uint8_t *out, size_t out_len);
 
 /*
- * Reads a para tag: how many numbers it has (1, 3, 4, 5 or 7), and seven. Refused: 8 where the tag has fewer than 12 bytes; 9; 10;
- * 11; 8 where the tag is not exactly 12 + 4 * count bytes long.
+ * Reads a para tag: how many numbers it has (1, 3, 4, 5 or 7), and seven. Refused: 8 where the tag has fewer than 12
+ * bytes; 9; 10; 11; 8 where the tag is not exactly 12 + 4 * count bytes long.
  */
 bg_para bg_para_read(const uint8_t *tag, size_t tag_len);
 

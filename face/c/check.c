@@ -188,6 +188,7 @@ static const struct {
     {"para tags", para_tags, false},
     {"para tags as curves", para_curves, true},
     {"the version", version, false},
+    {"the refusals' texts", refusals, false},
 };
 enum { SUBJECTS = sizeof subjects / sizeof *subjects };
 

@@ -71,6 +71,7 @@ void para_tags(void);
 void parametrics(void);
 void ported_inverses(void);
 void powers(void);
+void refusals(void);
 void rounded(void);
 void verdicts(void);
 void version(void);

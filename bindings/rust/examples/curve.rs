@@ -1,10 +1,9 @@
 //! A morning at the lab, in Rust: a curve arrives as an ICC tag, the operator nudges a point, overshoots and takes that
-//! back, the day's jobs read the curve, and it goes back into a tag. It prints what examples/curve.c does. From the
-//! project's root:
+//! back, the day's jobs read the curve, and it goes back into a tag. It prints what examples/curve.c does. In the
+//! crate's folder, once the archive is there (in the project: after `rt staticlib brassgroat` in its root):
 //!
 //! ```text
-//! rt staticlib brassgroat
-//! cd bindings/rust && cargo run --example curve
+//! cargo run --example curve
 //! ```
 use brassgroat::{Density, Drive, Log, Refusal, curv};
 
@@ -39,7 +38,7 @@ fn main() -> Result<(), Refusal> {
     let first = log.standing()[0];
     println!("taken back to {}; what stands is entry {}, from {} to {}", table[2], first.index, first.old, first.new);
 
-    // A drive in, a density out. They are two types, so that neither is written in the other's column.
+    // A drive in, a density out. They are two types, so that neither is taken for the other.
     let half = Drive(32768);
     let density = brassgroat::lut_interp_linear16(&table, half)?;
     println!("drive {} gives density {}", half.0, density.0);

@@ -5,9 +5,9 @@ use crate::{Refusal, raw};
 /// How many entries a tag has, and so how long a buffer [`read`] asks for.
 ///
 /// # Errors
-/// [`TagLength`](Refusal::TagLength) below 12 bytes; [`WrongSignature`](Refusal::WrongSignature); [`ReservedNotZero`](Refusal::ReservedNotZero);
-/// [`TableLength`](Refusal::TableLength) where the count is above 65,536; [`TagLength`](Refusal::TagLength) where the tag is not exactly 12 bytes and two for
-/// each entry.
+/// [`TagLength`](Refusal::TagLength) below 12 bytes; [`WrongSignature`](Refusal::WrongSignature);
+/// [`ReservedNotZero`](Refusal::ReservedNotZero); [`TableLength`](Refusal::TableLength) where the count is above
+/// 65,536; [`TagLength`](Refusal::TagLength) where the tag is not exactly 12 bytes and two for each entry.
 pub fn count(tag: &[u8]) -> Result<usize, Refusal> {
     // SAFETY: a slice's pointer and length, see `raw`
     let answer = unsafe { raw::bg_curv_count(tag.as_ptr(), tag.len()) };
@@ -44,7 +44,8 @@ pub fn part(tag: &[u8]) -> Result<&[u8], Refusal> {
 /// Writes a table, which may be empty, as a tag.
 ///
 /// # Errors
-/// [`TableLength`](Refusal::TableLength) above 65,536 entries; [`OutputLength`](Refusal::OutputLength) where `out` is not 12 bytes and two for each entry.
+/// [`TableLength`](Refusal::TableLength) above 65,536 entries; [`OutputLength`](Refusal::OutputLength) where `out` is
+/// not 12 bytes and two for each entry.
 pub fn write(table: &[u16], out: &mut [u8]) -> Result<(), Refusal> {
     // SAFETY: slices' pointers and lengths, see `raw`
     granted(unsafe { raw::bg_curv_write(table.as_ptr(), table.len(), out.as_mut_ptr(), out.len()) })

@@ -40,8 +40,8 @@ pub fn accept(table: &[u16]) -> Result<(), Refusal> {
 /// ```
 ///
 /// # Errors
-/// [`TableLength`](Refusal::TableLength); [`IndexBeyond`](Refusal::IndexBeyond); [`NotNondecreasing`](Refusal::NotNondecreasing);
-/// [`OutsideNeighbours`](Refusal::OutsideNeighbours).
+/// [`TableLength`](Refusal::TableLength); [`IndexBeyond`](Refusal::IndexBeyond);
+/// [`NotNondecreasing`](Refusal::NotNondecreasing); [`OutsideNeighbours`](Refusal::OutsideNeighbours).
 pub fn nudge(table: &mut [u16], index: usize, density: Density) -> Result<(), Refusal> {
     // SAFETY: a slice's pointer and length, see `raw`
     granted(unsafe { raw::bg_nudge(table.as_mut_ptr(), table.len(), index, density) })

@@ -24,14 +24,16 @@ pub fn lut_interp_linear_float(table: &[f32], x: f32) -> Result<f32, Refusal> {
 /// ```
 ///
 /// # Errors
-/// [`TableLength`](Refusal::TableLength) above 65,536 entries; [`OutsideUnit`](Refusal::OutsideUnit) where x is a NaN, below 0 or above 1.
+/// [`TableLength`](Refusal::TableLength) above 65,536 entries; [`OutsideUnit`](Refusal::OutsideUnit) where x is a NaN,
+/// below 0 or above 1.
 pub fn lut_interp_linear(table: &[u16], x: f64) -> Result<f32, Refusal> {
     // SAFETY: a slice's pointer and length, see `raw`
     let answer = unsafe { raw::bg_lut_interp_linear(table.as_ptr(), table.len(), x) };
     granted(answer.refusal).map(|()| answer.value)
 }
 
-/// The table that passes its input through: entry i is i times the reciprocal of the last index, worked in f64, as the nearest f32.
+/// The table that passes its input through: entry i is i times the reciprocal of the last index, worked in f64, as the
+/// nearest f32.
 ///
 /// ```
 /// let mut table = [0.0; 5];

@@ -12,14 +12,16 @@ use crate::{Density, Drive, Refusal, raw};
 /// ```
 ///
 /// # Errors
-/// [`TableLength`](Refusal::TableLength); [`NotNondecreasing`](Refusal::NotNondecreasing); [`AboveLast`](Refusal::AboveLast).
+/// [`TableLength`](Refusal::TableLength); [`NotNondecreasing`](Refusal::NotNondecreasing);
+/// [`AboveLast`](Refusal::AboveLast).
 pub fn least_input(table: &[u16], density: Density) -> Result<Drive, Refusal> {
     // SAFETY: a slice's pointer and length, see `raw`
     let answer = unsafe { raw::bg_least_input(table.as_ptr(), table.len(), density) };
     granted(answer.refusal).map(|()| answer.drive)
 }
 
-/// The least inputs of a row of densities: `out[i]` is [`least_input`] of `densities[i]`, or 65,536, which is no position, where no position reaches it.
+/// The least inputs of a row of densities: `out[i]` is [`least_input`] of `densities[i]`, or 65,536, which is no
+/// position, where no position reaches it.
 ///
 /// ```
 /// let mut out = [0; 3];
@@ -29,8 +31,8 @@ pub fn least_input(table: &[u16], density: Density) -> Result<Drive, Refusal> {
 /// ```
 ///
 /// # Errors
-/// [`TableLength`](Refusal::TableLength); [`OutputLength`](Refusal::OutputLength) where `out` is not as long as `densities`;
-/// [`NotNondecreasing`](Refusal::NotNondecreasing).
+/// [`TableLength`](Refusal::TableLength); [`OutputLength`](Refusal::OutputLength) where `out` is not as long as
+/// `densities`; [`NotNondecreasing`](Refusal::NotNondecreasing).
 pub fn least_input_row(table: &[u16], densities: &[u16], out: &mut [u32]) -> Result<(), Refusal> {
     // SAFETY: slices' pointers and lengths, see `raw`
     granted(unsafe {
@@ -62,10 +64,12 @@ pub fn lut_inverse_interp16(table: &[u16], density: Density) -> Result<Drive, Re
     granted(answer.refusal).map(|()| answer.drive)
 }
 
-/// The table inverted by [`lut_inverse_interp16`]: the drives for densities spread evenly from 0 to 65535, as many as `out` has entries.
+/// The table inverted by [`lut_inverse_interp16`]: the drives for densities spread evenly from 0 to 65535, as many as
+/// `out` has entries.
 ///
 /// # Errors
-/// [`TableLength`](Refusal::TableLength); [`OutsideRange`](Refusal::OutsideRange) where `out` has other than 2 to 65,536 entries.
+/// [`TableLength`](Refusal::TableLength); [`OutsideRange`](Refusal::OutsideRange) where `out` has other than 2 to
+/// 65,536 entries.
 pub fn invert_lut(table: &[u16], out: &mut [u16]) -> Result<(), Refusal> {
     // SAFETY: slices' pointers and lengths, see `raw`
     granted(unsafe { raw::bg_invert_lut(table.as_ptr(), table.len(), out.as_mut_ptr(), out.len()) })

@@ -1,13 +1,18 @@
 //! The tone curve part of a photo lab's grey box.
 //!
-//! Behind every function here stands one that is written in Rattle and proved to keep its promise. This crate makes the calls safe and Rust's own: slices go
-//! in, a [`Result`] comes out. It has no dependencies, allocates nothing and needs no `std`.
+//! Behind every function here stands one that is written in Rattle and proved to keep its promise. This crate makes the
+//! calls safe and Rust's own: slices go in, a [`Result`] comes out. It has no dependencies, allocates nothing and needs
+//! no `std`.
 //!
-//! A position, the input side of a curve, is a [`Drive`]; a sample, the output side, is a [`Density`]. They are two types, so that neither is written in the
-//! other's column: looking up takes a drive and gives a density, and both inverses take a density and give a drive. Tables and rows are plain `u16`s.
+//! **It links on x86-64 Linux**, which the archive is for ([below](#the-archive)). On other systems it can be checked
+//! and documented.
 //!
-//! **Every call takes any input at all.** It answers, or it refuses with a [`Refusal`], and then every slice that was lent holds what it held. So check nothing
-//! first: call, and look at what comes back.
+//! A position, the input side of a curve, is a [`Drive`]; a sample, the output side, is a [`Density`]. They are two
+//! types, so that neither is taken for the other: looking up takes a drive and gives a density, and both inverses take
+//! a density and give a drive. Tables and rows are plain `u16`s.
+//!
+//! **Every call takes any input at all.** It answers, or it refuses with a [`Refusal`], and then every slice that was
+//! lent holds what it held. So check nothing first: call, and look at what comes back.
 //!
 //! # A morning
 //!
@@ -69,16 +74,22 @@
 //!
 //! # The archive
 //!
-//! `rt staticlib brassgroat`, run in the project's root, proves the library and writes target/staticlib/libbrassgroat.a, for x86-64 Linux. The build
-//! finds it there, or in the folder that the environment variable `BRASSGROAT_LIB_DIR` names. An archive that was not made with this crate may have other
-//! structs, or logs of another length: compare [`version`] with [`VERSION`] first.
+//! The calls are in libbrassgroat.a, for x86-64 Linux. A release has it beside this crate, in ../lib. In the project
+//! `rt staticlib brassgroat`, run in the project's root, proves the library and writes it into target/staticlib. The
+//! build finds it in either place. Where the environment variable `BRASSGROAT_LIB_DIR` names a folder, the build takes
+//! it from there and nowhere else; a relative folder is taken from where cargo was started, as `PWD` says.
+//!
+//! An archive that was not made with this crate may have other structs, or logs of another length: compare [`version`]
+//! with [`VERSION`] first.
 //!
 //! # The floating-point environment
 //!
-//! Rust's own code rounds to nearest and flushes nothing to zero, and a call keeps its promise there. A program in C that calls Rust may be in another
-//! environment, as it is where it was linked with -ffast-math. Eight calls, which work in floats, then promise nothing: [`lut_interp_linear_float`],
-//! [`lut_interp_linear`], [`passthrough_table_impl`], [`ParametricCurve::new`], [`compare_parametric`], [`para::curve`], and, since they work in doubles
-//! inside, [`lut_inverse_interp16`] and [`invert_lut`]. All other calls answer the same in every environment.
+//! Rust's own code rounds to nearest and flushes nothing to zero, and a call keeps its promise there. A program in C
+//! that calls Rust may be in another environment, as it is where it was linked with -ffast-math. Eight calls, which
+//! work in floats, then promise nothing: [`lut_interp_linear_float`], [`lut_interp_linear`],
+//! [`passthrough_table_impl`], [`ParametricCurve::new`], [`compare_parametric`], [`para::curve`], and, since they work
+//! in doubles inside, [`lut_inverse_interp16`] and [`invert_lut`]. All other calls answer the same in every
+//! environment.
 #![no_std]
 #![warn(missing_docs)]
 

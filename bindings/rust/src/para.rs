@@ -28,15 +28,17 @@ pub struct Parameters {
 /// Reads a tag's count and its raw numbers.
 ///
 /// # Errors
-/// [`TagLength`](Refusal::TagLength) below 12 bytes; [`WrongSignature`](Refusal::WrongSignature); [`ReservedNotZero`](Refusal::ReservedNotZero);
-/// [`FunctionType`](Refusal::FunctionType); [`TagLength`](Refusal::TagLength) where the tag is not exactly 12 bytes and four for each number.
+/// [`TagLength`](Refusal::TagLength) below 12 bytes; [`WrongSignature`](Refusal::WrongSignature);
+/// [`ReservedNotZero`](Refusal::ReservedNotZero); [`FunctionType`](Refusal::FunctionType);
+/// [`TagLength`](Refusal::TagLength) where the tag is not exactly 12 bytes and four for each number.
 pub fn read(tag: &[u8]) -> Result<Parameters, Refusal> {
     // SAFETY: a slice's pointer and length, see `raw`
     let answer = unsafe { raw::bg_para_read(tag.as_ptr(), tag.len()) };
     granted(answer.refusal).map(|()| Parameters { count: answer.count, numbers: answer.numbers })
 }
 
-/// Reads a tag as a curve, each raw number as [`s15_fixed16_number_to_float`](crate::s15_fixed16_number_to_float) has it.
+/// Reads a tag as a curve, each raw number as [`s15_fixed16_number_to_float`](crate::s15_fixed16_number_to_float) has
+/// it.
 ///
 /// ```
 /// use brassgroat::{ParametricCurve, para};
@@ -67,7 +69,8 @@ pub fn curve(tag: &[u8]) -> Result<ParametricCurve, Refusal> {
 /// ```
 ///
 /// # Errors
-/// [`FunctionType`](Refusal::FunctionType) above 4; [`OutputLength`](Refusal::OutputLength) where `out` is not 12 bytes and four for each number.
+/// [`FunctionType`](Refusal::FunctionType) above 4; [`OutputLength`](Refusal::OutputLength) where `out` is not 12 bytes
+/// and four for each number.
 pub fn write(function_type: usize, numbers: Numbers, out: &mut [u8]) -> Result<(), Refusal> {
     // SAFETY: a slice's pointer and length, see `raw`
     granted(unsafe { raw::bg_para_write(function_type, numbers, out.as_mut_ptr(), out.len()) })

@@ -17,7 +17,8 @@ pub struct ParametricCurve {
 }
 
 impl ParametricCurve {
-    /// The curve unified from 1, 3, 4, 5 or 7 parameters in the order g, a, b, c, d, e, f; of four, the last is e and f.
+    /// The curve unified from 1, 3, 4, 5 or 7 parameters in the order g, a, b, c, d, e, f; of four, the last is e and
+    /// f.
     ///
     /// ```
     /// use brassgroat::{ParametricCurve, Refusal};
@@ -37,7 +38,8 @@ impl ParametricCurve {
     }
 }
 
-/// Whether no two parameters at one place are further apart than 1e-4, over the shorter length. A NaN difference counts as close.
+/// Whether no two parameters at one place are further apart than 1e-4, over the shorter length. A NaN difference counts
+/// as close.
 pub fn compare_parametric(src: &[f32], dst: &[f32]) -> bool {
     // SAFETY: slices' pointers and lengths, see `raw`
     unsafe { raw::bg_compare_parametric(src.as_ptr(), src.len(), dst.as_ptr(), dst.len()) }

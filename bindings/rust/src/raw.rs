@@ -1,9 +1,10 @@
 //! The archive's own calls, as include/brassgroat.h has them.
 //!
-//! What each asks of its caller is that a pointer is good for as many elements as the count beside it says, and that no output overlaps another buffer of
-//! the call. The safe functions of this crate pass the pointer and the length of a slice, and an output is always a `&mut` slice, so both hold.
+//! What each asks of its caller is that a pointer is good for as many elements as the count beside it says, and that no
+//! output overlaps another buffer of the call. The safe functions of this crate pass the pointer and the length of a
+//! slice, and an output is always a `&mut` slice, so both hold.
 //!
-//! A log is always as long: its pointer must be good for [`Log::PLACES`](crate::Log::PLACES)
+//! A log has no count of its length beside it: its pointer must be good for [`Log::PLACES`](crate::Log::PLACES)
 //! records, as that of a [`Log`](crate::Log)'s own array is.
 use crate::{Density, Drive, Record};
 

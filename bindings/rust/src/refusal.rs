@@ -1,110 +1,106 @@
 //! Why a call is refused.
 use core::fmt;
 
-/// Why a call was refused. It has then changed nothing.
-///
-/// Each case has a number, the same in every language that calls the library, and says as text what to do. Later versions may name more cases, and a number
-/// that has no name here is carried as it came: it can be told by [`number`](Refusal::number) alone.
-///
-/// ```
-/// use brassgroat::Refusal;
-///
-/// let refusal = brassgroat::accept(&[7, 3]).unwrap_err();
-/// assert_eq!(refusal, Refusal::NotNondecreasing);
-/// assert_eq!(refusal.number(), 2);
-/// assert_eq!(refusal.to_string(), "an entry of the table is below the one before it: put the entries in order, none below the one before");
-/// ```
-#[non_exhaustive]
-#[derive(Clone, Copy, Debug, PartialEq, Eq, Hash)]
-pub enum Refusal {
-    /// The table's length is 0 or above 65,536; of [`start`](crate::start) and of a gamma curve's table, below 2 or
-    /// above; of calls that say so, only above.
-    TableLength,
-    /// An entry of the table is below the one before it.
-    NotNondecreasing,
-    /// The index is beyond the table, or the gamma lookup's input is at or above its `inputs`.
-    IndexBeyond,
-    /// The nudged entry would be below its left or above its right neighbour.
-    OutsideNeighbours,
-    /// The density is above the last entry, so that no position reaches it.
-    AboveLast,
-    /// The output is not exactly as long as needed.
-    OutputLength,
-    /// A parametric curve has 1, 3, 4, 5 or 7 parameters.
-    ParameterCount,
-    /// The tag has fewer than 12 bytes, or the wrong total length.
-    TagLength,
-    /// The tag has another signature.
-    WrongSignature,
-    /// A reserved byte of the tag is not zero.
-    ReservedNotZero,
-    /// The function type is above 4.
-    FunctionType,
-    /// The gamma lookup's `inputs` or `depth`, or the length of an inverted or a passthrough table, is outside its range.
-    OutsideRange,
-    /// The input of [`lut_interp_linear`](crate::lut_interp_linear) is a NaN, below 0 or above 1.
-    OutsideUnit,
-    /// As many nudges stand in the [`Log`](crate::Log) as it holds.
-    LogFull,
-    /// No nudge stands in the [`Log`](crate::Log).
-    NothingToTakeBack,
-    /// The last nudge in the [`Log`](crate::Log) does not go with the table: it was made on another one, or the table
-    /// was changed since by other means.
-    BadLog,
-    /// The exponent of a gamma curve is 0 or above 4: in 65536ths, outside 1 to 262,144; as a gamma tag's entry,
-    /// outside 1 to 1,024.
-    Exponent,
-    /// A number that this version has no name for, from an archive that is newer than the crate.
-    #[non_exhaustive]
-    Unnamed(u32),
+/// Makes the refusals of one list: a number, a name and a text for each. The text says what is wrong, and after the
+/// colon what to do. It is the case's documentation and what it displays. Numbers that have no name come last.
+macro_rules! refusals {
+    (
+        $($(#[$more:meta])* $number:literal $name:ident $text:literal,)*
+        without a name: $($bare:literal $bare_text:literal,)*
+        any other: $other_text:literal,
+    ) => {
+        /// Why a call was refused. It has then changed nothing.
+        ///
+        /// Each case has a number, the same in every language that calls the library, and says as text what to do.
+        /// Later versions may name more cases. A number that has no name here is carried as it came, and
+        /// [`number`](Refusal::number) gives it.
+        ///
+        /// ```
+        /// use brassgroat::Refusal;
+        ///
+        /// let refusal = brassgroat::house::fill(&mut [0; 7]).unwrap_err();
+        /// assert_eq!(refusal, Refusal::OutputLength);
+        /// assert_eq!(refusal.number(), 6);
+        /// println!("refused: {refusal}");
+        /// ```
+        #[non_exhaustive]
+        #[derive(Clone, Copy, Debug, PartialEq, Eq, Hash)]
+        pub enum Refusal {
+            $(
+                #[doc = concat!(stringify!($number), ": ", $text, ".")]
+                ///
+                $(#[$more])*
+                $name,
+            )*
+            /// A number that this version has no name for, from an archive that is newer than the crate.
+            #[non_exhaustive]
+            Unnamed(u32),
+        }
+
+        impl Refusal {
+            /// Every refusal that has a name, in the order of their numbers.
+            pub const ALL: &[Refusal] = &[$(Refusal::$name),*];
+
+            /// Its number.
+            pub const fn number(self) -> u32 {
+                match self {
+                    $(Refusal::$name => $number,)*
+                    Refusal::Unnamed(number) => number,
+                }
+            }
+
+            const fn text(self) -> &'static str {
+                match self {
+                    $(Refusal::$name => $text,)*
+                    $(Refusal::Unnamed($bare) => $bare_text,)*
+                    Refusal::Unnamed(_) => $other_text,
+                }
+            }
+        }
+    };
+}
+
+// The texts are those of `bg_refusal_text` in include/brassgroat.h to the letter, and the names are those of its
+// `enum bg_refusal`: face/test compares both, and reads this list as it stands here.
+refusals! {
+    /// See [`start`](crate::start), [`power_table`](crate::power_table) and
+    /// [`lut_interp_linear`](crate::lut_interp_linear).
+    1 TableLength "the table's length is 0 or above 65,536 (a start and a gamma curve need 2 at least; a curv tag, a \
+        verdict and lut_interp_linear take 0 as well): use a length within these bounds",
+    2 NotNondecreasing "the table is not nondecreasing, as an entry is below the one before it: put its entries in \
+        order",
+    3 IndexBeyond "the index is beyond the table, or the gamma lookup's input is at or above its number of inputs: \
+        give an index below the table's length, or an input below that number",
+    4 OutsideNeighbours "the nudged entry would be below its left or above its right neighbour: \
+        give a density from the left neighbour's to the right one's, or nudge those first",
+    5 AboveLast "the density is above the table's last entry, so that no position reaches it: \
+        ask for one that is not above the last entry",
+    6 OutputLength "the output buffer is not exactly as long as needed: lend one of the length that the call asks for",
+    7 ParameterCount "a parametric curve cannot have this number of parameters: give it 1, 3, 4, 5 or 7",
+    8 TagLength "the tag has fewer than 12 bytes, or not the total length that its count or function type asks for: \
+        give the whole tag, and no byte more",
+    9 WrongSignature "the tag has another signature: read it by the call for its kind of tag",
+    10 ReservedNotZero "a reserved byte of the tag is not zero, so the tag is damaged or of another kind: get a sound \
+        one",
+    11 FunctionType "the function type is above 4: use one of the types 0 to 4, which are all that ICC.1 has",
+    12 OutsideRange "the gamma lookup's number of inputs is outside 2 to 65,536 or its depth outside 1 to 16, or the \
+        length of an inverted or a passthrough table is outside 2 to 65,536: give a number within its range",
+    13 OutsideUnit "the input of lut_interp_linear is a NaN, below 0 or above 1: give one from 0 to 1",
+    /// See [`Log`](crate::Log).
+    15 LogFull "the log is full, as 63 nudges stand in it: take one back, or start or accept anew, which empties it",
+    16 NothingToTakeBack "there is nothing to take back, as no nudge stands in the log: nudge first",
+    /// A [`Log`](crate::Log) of this crate never has such a count.
+    17 BadLog "the log's count is above 63, or on a take-back its last nudge does not go with the table (a damaged \
+        log, another table, or a table changed by other means): \
+        lend this table's own log, or start or accept anew, which empties the log",
+    18 Exponent "the gamma curve's exponent is 0 or above 4: \
+        give 1 to 262,144 in 65536ths, or by a gamma tag's entry 1 to 1,024 in 256ths",
+    without a name:
+    14 "a number that no call of this version gives: see the header of the archive that gave it",
+    any other: "a number that this version has no text for: see the header of the archive that gave it",
 }
 
 impl Refusal {
-    /// Every refusal that has a name, in the order of their numbers. 14 has none yet: no call gives it.
-    pub const ALL: &[Refusal] = &[
-        Refusal::TableLength,
-        Refusal::NotNondecreasing,
-        Refusal::IndexBeyond,
-        Refusal::OutsideNeighbours,
-        Refusal::AboveLast,
-        Refusal::OutputLength,
-        Refusal::ParameterCount,
-        Refusal::TagLength,
-        Refusal::WrongSignature,
-        Refusal::ReservedNotZero,
-        Refusal::FunctionType,
-        Refusal::OutsideRange,
-        Refusal::OutsideUnit,
-        Refusal::LogFull,
-        Refusal::NothingToTakeBack,
-        Refusal::BadLog,
-        Refusal::Exponent,
-    ];
-
-    /// Its number.
-    pub const fn number(self) -> u32 {
-        match self {
-            Refusal::TableLength => 1,
-            Refusal::NotNondecreasing => 2,
-            Refusal::IndexBeyond => 3,
-            Refusal::OutsideNeighbours => 4,
-            Refusal::AboveLast => 5,
-            Refusal::OutputLength => 6,
-            Refusal::ParameterCount => 7,
-            Refusal::TagLength => 8,
-            Refusal::WrongSignature => 9,
-            Refusal::ReservedNotZero => 10,
-            Refusal::FunctionType => 11,
-            Refusal::OutsideRange => 12,
-            Refusal::OutsideUnit => 13,
-            Refusal::LogFull => 15,
-            Refusal::NothingToTakeBack => 16,
-            Refusal::BadLog => 17,
-            Refusal::Exponent => 18,
-            Refusal::Unnamed(number) => number,
-        }
-    }
-
     /// The refusal that has a number, whether it is named or not. None has 0, which is no refusal.
     ///
     /// ```
@@ -123,28 +119,13 @@ impl Refusal {
     }
 }
 
+/// The text of the case. A number that has no name stands before its text.
 impl fmt::Display for Refusal {
     fn fmt(&self, f: &mut fmt::Formatter<'_>) -> fmt::Result {
-        f.write_str(match self {
-            Refusal::TableLength => "the table is empty or has more than 65,536 entries: lend one of 1 to 65,536, or of 2 and more to start",
-            Refusal::NotNondecreasing => "an entry of the table is below the one before it: put the entries in order, none below the one before",
-            Refusal::IndexBeyond => "the index is beyond the table: give one below its length, or an input below the number of inputs",
-            Refusal::OutsideNeighbours => "the entry would pass a neighbour: give a density between the entries to its left and right, or nudge those first",
-            Refusal::AboveLast => "no position reaches the density: ask for one that is not above the table's last entry",
-            Refusal::OutputLength => "the output has the wrong length: lend one of exactly the length that the call names",
-            Refusal::ParameterCount => "a parametric curve has 1, 3, 4, 5 or 7 parameters: give as many",
-            Refusal::TagLength => "the tag has fewer than 12 bytes, or not as many as it says: lend the whole tag and no more",
-            Refusal::WrongSignature => "the tag has another signature: read it by the call for its kind",
-            Refusal::ReservedNotZero => "a reserved byte of the tag is not zero: the tag is damaged, or of another kind",
-            Refusal::FunctionType => "the function type is above 4: ICC.1 has types 0 to 4",
-            Refusal::OutsideRange => "a size is outside its range: 2 to 65,536 inputs or entries, and 1 to 16 bits",
-            Refusal::OutsideUnit => "the input is a NaN, below 0 or above 1: bring it into that range first",
-            Refusal::LogFull => "the log is full: take a nudge back, or start or accept anew, which empties it",
-            Refusal::NothingToTakeBack => "no nudge stands in the log: there is nothing to take back",
-            Refusal::BadLog => "the log's last nudge does not go with this table: lend its own, or accept this one",
-            Refusal::Exponent => "the exponent is 0 or above 4: give 1 to 262,144, or a tag's entry of 1 to 1,024",
-            Refusal::Unnamed(number) => return write!(f, "refused with {number}, which this version has no name for: see the archive's own header"),
-        })
+        if let Refusal::Unnamed(number) = self {
+            write!(f, "refused with {number}, ")?;
+        }
+        f.write_str(self.text())
     }
 }
 

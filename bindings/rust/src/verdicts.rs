@@ -11,16 +11,16 @@ pub enum Direction {
     Falling,
 }
 
-/// Whether a curve goes one way, and how many steps are against it.
+/// Whether a curve is monotonic, and how many violations it has.
 #[derive(Clone, Copy, Debug, PartialEq, Eq, Hash)]
 pub struct Monotonic {
-    /// Whether fewer than one entry in twenty steps against the direction.
+    /// Monotonic: 20 × violations < entries, or fewer than two entries.
     pub yes: bool,
-    /// How many do.
+    /// How many entries are on the wrong side of the one before them.
     pub violations: usize,
 }
 
-/// Whether the curve goes the given way, but for fewer than one entry in twenty. Yes below two entries.
+/// Whether the curve is monotonic in the given direction: 20 × violations < entries, or fewer than two entries.
 ///
 /// ```
 /// use brassgroat::{Direction, Monotonic, is_curve_monotonic};
@@ -36,7 +36,8 @@ pub fn is_curve_monotonic(table: &[u16], direction: Direction) -> Result<Monoton
     granted(answer.refusal).map(|()| Monotonic { yes: answer.yes, violations: answer.violations })
 }
 
-/// Whether the run equal to the first entry or the run equal to the last has at least 20 entries. No below two entries.
+/// Whether the curve is degenerated: the run of entries equal to the first, or of those equal to the last, has at least
+/// 20 entries.
 ///
 /// ```
 /// assert_eq!(brassgroat::is_curve_degenerated(&[7; 19]), Ok(false));

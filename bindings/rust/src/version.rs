@@ -13,7 +13,8 @@ const fn part(digits: &str) -> u32 {
     }
 }
 
-/// The version of the archive that is linked, in the same form. The two belong together only where it is [`VERSION`]: another archive may have other structs.
+/// The version of the archive that is linked, in the same form. The two belong together only where it is [`VERSION`]:
+/// another archive may have other structs.
 ///
 /// ```
 /// assert_eq!(brassgroat::version(), brassgroat::VERSION);
