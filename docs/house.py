@@ -1,9 +1,10 @@
 #!/usr/bin/env python3
-"""Prints the house curve as crates/house/src/entries.rt has it, from document 01's rule and whole numbers alone:
-entry i is the n nearest to 65535 (i/1023)^2.5, so 2n+1 is the first odd number whose square is above 4·65535²·i⁵/1023⁵.
+"""Prints the house curve's numbers as crates/house/src/entries.rt has them, by document 01's rule and whole numbers
+alone. Entry i is the n nearest to 65535·(i/1023)^2.5, so 2n+1 is the first odd number whose square is above
+4·65535²·i⁵/1023⁵.
 
-To see that the source is what the rule gives:
-    python3 docs/house.py | diff - <(sed -n '/^const/,/^];/p' crates/house/src/entries.rt)
+Usage: docs/house.py. To see that the source has what the rule gives:
+    docs/house.py | diff - <(sed -n '/^const/,/^];/p' crates/house/src/entries.rt)
 """
 from math import isqrt
 

@@ -259,8 +259,8 @@ static void compare_lcms(struct work *work) {
             furthest = apart;
     }
     if (work->lcms_curve)
-        printf("Little CMS's lookups, at all positions of the curve of %zu entries, are at most %d from ours.\n", work->n,
-               furthest);
+        printf("Little CMS's lookups, at all positions of the curve of %zu entries, are at most %d from ours.\n",
+               work->n, furthest);
     else
         printf("Little CMS takes no curve of %zu entries.\n", work->n);
     if (work->n == LCMS_GAMMA_ENTRIES) {
@@ -301,7 +301,8 @@ static double took(const struct side *side, const struct work *work) {
     return seconds() - began;
 }
 
-/* The sides take turns, round by round, so that whatever else the machine does falls on all of them. The best round counts. */
+/* The sides take turns, round by round, so that whatever else the machine does falls on all of them. The best round
+   counts. */
 static void time_call(const struct call *call, struct work *work) {
     struct side sides[MOST_SIDES];
     size_t count = sides_of(call, work, sides);
@@ -365,8 +366,8 @@ static void list(size_t n, char **names) {
     }
 }
 
-/* What comes before the work is the same for every count, so that it drops out of a difference, and short, since a counter
-   makes everything slow: few questions are drawn, and the curve is baked only for the calls that want it. */
+/* What comes before the work is the same for every count, so that it drops out of a difference, and short, since a
+   counter makes everything slow: few questions are drawn, and the curve is baked only for the calls that want it. */
 static void count_one(size_t n, const char *name, const char *who, size_t count) {
     const struct call call = {.name = name};
     struct work work = prepared(n, COUNTED);

@@ -1,4 +1,5 @@
-/* A curve and questions from a fixed generator, in whole numbers as far as they go, so that every machine has the same. */
+/* A curve and questions from a fixed generator, in whole numbers as far as they go, so that every machine has the
+   same. */
 #include "questions.h"
 
 #include <stdio.h>
@@ -22,8 +23,8 @@ static void *room(size_t bytes) {
     return place;
 }
 
-/* A curve as a step wedge gives it: four times as steep at its end as at its start, uneven, never falling, from 0 to a single
-   65535. (Two of them at the end of a long table would be outside the Rust's domain.) */
+/* A curve as a step wedge gives it: four times as steep at its end as at its start, uneven, never falling, from 0 to a
+   single 65535. (Two of them at the end of a long table would be outside the Rust's domain.) */
 static void draw_curve(uint16_t *table, size_t n, uint64_t *state) {
     uint64_t *risen = room(n * sizeof *risen);
     for (size_t i = 1; i < n; i++)

@@ -1,5 +1,5 @@
-/* The Rust's side. `called`: a loop in C around a door, as a program in another language meets it. `inlined`: the loop is in the
-   Rust's own crate. */
+/* The Rust's side. `called`: a loop in C around a door, as a program in another language meets it. `inlined`: the loop
+   is in the Rust's own crate. */
 #include "rust.h"
 #include "bits.h"
 #include "brassgroat.h"

@@ -36,8 +36,8 @@ struct work {
     void *lcms_curve;        /* the curve as Little CMS keeps it; NULL where it takes none so long */
 };
 
-/* Asks work->count questions, or does as many whole tables. The sum of the answers; of calls that fill a buffer, of what
-   they return. */
+/* Asks work->count questions, or does as many whole tables. The sum of the answers; of calls that fill a buffer, of
+   what they return. */
 typedef uint64_t piece(const struct work *work);
 
 /* One side of a comparison. */
@@ -55,6 +55,7 @@ void lcms_prepare(struct work *work);
 uint16_t lcms_lookup(const struct work *work, uint16_t position);
 size_t lcms_gamma(double gamma, uint16_t *out); /* cmsBuildGamma's entries, into room for POSITIONS, and how many */
 uint16_t libc_value(uint16_t x, double gamma); /* a gamma curve's value by the C library's pow, rounded */
-uint16_t same(const uint16_t *table, size_t n, uint16_t position); /* gives back the position, for the cost of a loop of calls */
+/* Gives back the position: for the cost of a loop of calls. */
+uint16_t same(const uint16_t *table, size_t n, uint16_t position);
 
 #endif

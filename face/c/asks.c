@@ -1,4 +1,4 @@
-/* The rooms that are lent from, the reports, and one question of each export. */
+/* The memory that buffers are lent from, the reports, and one question for each export. */
 #define _GNU_SOURCE
 #include "asks.h"
 #include "reference.h"

@@ -1,4 +1,4 @@
-/* The curv tag: each layout of ICC.1, each refusal, and both round trips. */
+/* Tests of the curv tag: each layout of ICC.1, each refusal, and both round trips. */
 #include "check.h"
 
 #include <string.h>

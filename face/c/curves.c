@@ -1,4 +1,4 @@
-/* Working on a curve: start, accept, nudge. */
+/* Tests of the work on a curve: start, accept, nudge. */
 #include "check.h"
 
 static void start(void)

@@ -1,8 +1,8 @@
 /*
- * Other floating-point environments. What was expected of the calls that work in whole numbers is expected again in
- * each, and of those that work in floats once the default one is back. Then the latter are seen to move, so that the
- * header does not warn for nothing: no promise says what they answer there. (Only the passthrough table was never seen
- * to.)
+ * Tests in other floating-point environments. The calls that work in whole numbers must answer as before in each of
+ * them; those that work in floats, once the default one is back. Then the float calls are shown to answer otherwise
+ * there, so that the header's warning is not for nothing: no promise says what they answer. (Only the passthrough table
+ * was never seen to answer otherwise.)
  */
 #include "check.h"
 

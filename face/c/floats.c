@@ -1,4 +1,4 @@
-/* Floats: the float lookups, the passthrough table, and numbers rounded to f32. */
+/* Tests of the float calls: the float lookups, the passthrough table, and numbers rounded to f32. */
 #include "check.h"
 
 #include <math.h>

@@ -1,5 +1,5 @@
 /*
- * Gamma curves held to document 02's bound, (iv): with N = 65536 and M = 65535, of every x from 0 to M,
+ * Gamma curves held to document 02's bound, (iv). With N = 65536 and M = 65535, for every x from 0 to M:
  *
  *     (n-1)^N * M^p <= x^p * M^N <= (n+1)^N * M^p        (n-1 is 0 for an n of 0)
  *
@@ -14,7 +14,7 @@
  * n-1 or n+1 is x, or where x is M and n-1 or n+1 is M. For M = 3 * 5 * 17 * 257 has no square in it, and an x between
  * 0 and M lacks one of these factors, so of that factor the two sides have different powers.
  *
- * face/test has few exponents beside the telling ones, and some hundreds by: face/test 300000 1 200000 300.
+ * face/test tries few exponents beside the telling ones. `face/test 300000 1 200000 300` tries some hundreds.
  */
 #include "asks.h"
 

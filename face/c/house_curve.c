@@ -1,4 +1,4 @@
-/* The house curve, each entry held to document 01's fifth-power rule. */
+/* Tests of the house curve: each entry is held to document 01's fifth-power rule. */
 #include "check.h"
 
 __extension__ typedef unsigned __int128 wide;

@@ -1,4 +1,4 @@
-/* From density back to drive. The worked numbers are document 01's. */
+/* Tests of the calls from density back to drive. The worked numbers are document 01's. */
 #include "check.h"
 
 static bool position_is(bg_position p, uint32_t refusal, uint16_t drive)

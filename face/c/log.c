@@ -1,6 +1,6 @@
 /*
- * Taking nudges back: start, accept, nudge and take-back over a table and its log. Each granted call is held to every
- * byte that it should leave of the table, the log and the count, and each refused one to changing none.
+ * Tests of taking nudges back: start, accept, nudge and take-back over a table and its log. Each granted call is held
+ * to every byte that it should leave of the table, the log and the count, and each refused one to changing none.
  */
 #include "check.h"
 

@@ -1,4 +1,4 @@
-/* Looking up. The worked numbers are document 01's. */
+/* Tests of the lookups. The worked numbers are document 01's. */
 #include "check.h"
 
 static bool sample_is(bg_sample s, uint32_t refusal, uint16_t density)

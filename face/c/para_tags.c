@@ -1,4 +1,4 @@
-/* The para tag: each layout of ICC.1, each refusal, and both round trips. */
+/* Tests of the para tag: each layout of ICC.1, each refusal, and both round trips. */
 #include "check.h"
 
 #include <string.h>

@@ -1,4 +1,4 @@
-/* Parametric curves. */
+/* Tests of parametric curves. */
 #include "check.h"
 
 #include <math.h>

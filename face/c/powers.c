@@ -1,6 +1,6 @@
 /*
- * Gamma curves: values and tables worked out beforehand by another program, on whole numbers of any size, from the
- * definition's words.
+ * Tests of gamma curves. The values and tables were worked out beforehand by another program, on whole numbers of any
+ * size, from the words of the definition.
  */
 #include "check.h"
 

@@ -1,6 +1,6 @@
 /*
- * The rules of documents 01 and 02 in plain C. Whole numbers are worked in 64 bits, where none of them overflows;
- * floats in C's own float and double with no fused step, so it is compiled with -ffp-contract=off.
+ * The rules of documents 01 and 02 in plain C. Whole numbers are worked out in 64 bits, where none of them overflows;
+ * floats in C's own float and double with no fused step, so this file is compiled with -ffp-contract=off.
  */
 #include "reference.h"
 

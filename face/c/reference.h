@@ -1,7 +1,7 @@
 /*
- * What every export should answer: the rules of documents 01 and 02 in plain C, written from their words and ICC.1 and
- * from nothing else, but for a gamma curve's value: document 02 leaves several, and the one here is the library's by
- * its definition. Each function takes what its export takes. A granted one writes its output; a refused one leaves it.
+ * What every export should answer: the rules of documents 01 and 02 in plain C, written from those documents and ICC.1
+ * alone. One exception: document 02 allows several values for a gamma curve, and the one here is the library's own
+ * definition. Each function takes what its export takes. A granted one writes its output; a refused one leaves it.
  */
 #ifndef REFERENCE_H
 #define REFERENCE_H

@@ -1,8 +1,8 @@
 /*
- * Sittings with a log: the four calls on one table and its log, any after any, granted and refused. A list of the
- * standing nudges is kept here by the calls and their answers alone. After each call the table is held to the starting
- * one with these nudges done over again, in order; every record, standing or free, to what was last logged in its
- * place; and the answer to what the rules say, by which neither 2 nor 17 can come.
+ * Sittings with a log: the four calls on one table and its log, in any order, granted and refused. A list of the
+ * standing nudges is kept here from the calls and their answers alone. After each call three things are checked: the
+ * table is the starting one with these nudges done again, in order; every record, standing or free, is what was last
+ * logged in its place; and the answer is what the rules say, by which neither 2 nor 17 can come.
  */
 #include "asks.h"
 #include "reference.h"

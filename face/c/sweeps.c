@@ -1,9 +1,14 @@
 /*
- * Sweeps: every ICC layout, each byte of each short tag changed in every way and every two of its head in some, every
- * length about a tag's own, counts at their limits, tags and calls that are wrong in two ways, outputs of every telling
- * length, gamma curves of every telling length and exponent, logs of every count and with each bit of the last record
- * changed, lengths past 2^32, and numbers rounded to float against C's own cast. Where an answer stands here as a
- * number, the reference is held to it, as the exports are to the reference.
+ * Sweeps: calls over whole ranges of inputs, held to the reference.
+ *
+ *   tags     every ICC layout; each byte of each short tag changed in every way, and every two bytes of its head in
+ *            some; every length about a tag's own; counts at their limits
+ *   calls    wrong in two ways, as tags are too; outputs of every telling length; lengths past 2^32
+ *   curves   gamma curves of every telling length and exponent
+ *   logs     of every count, and with each bit of the last record changed
+ *   numbers  rounded to float, against C's own cast
+ *
+ * Where an answer stands here as a number, the reference is held to it, as the exports are to the reference.
  */
 #include "asks.h"
 #include "reference.h"

@@ -1,6 +1,6 @@
 /*
- * Verdicts on a curve's shape. The edges are document 01's: 20 entries with one violation no, 21 yes; a run of 19 no,
- * 20 yes.
+ * Tests of the verdicts on a curve's shape. The edges are document 01's. Monotonic: 20 entries with one violation no,
+ * 21 yes. Degenerated: a run of 19 no, 20 yes.
  */
 #include "check.h"
 

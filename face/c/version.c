@@ -1,4 +1,4 @@
-/* The version: the archive's is the header's. */
+/* Test of the version: the archive's is the header's. */
 #include "check.h"
 
 void version(void)

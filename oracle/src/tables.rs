@@ -43,7 +43,7 @@ type Shape = fn(&mut Generator, usize) -> Vec<u16>;
 const SHAPES: [Shape; 11] =
     [rising, ramps, falling, neither, straight, rising, square, steps, gentle, slipping, constant];
 
-/// Shapes that a list of a few items says, however long the table is.
+/// Shapes that a list of a few items can write, however long the table is.
 const BRIEF_SHAPES: [Shape; 4] = [ramps, gentle, steps, constant];
 
 /// A random table, of each shape in its turn, with runs at its ends more often than not.
@@ -51,7 +51,7 @@ pub fn random_table(g: &mut Generator, turn: usize, length: usize) -> Vec<u16> {
     with_runs(g, SHAPES[turn % SHAPES.len()], length)
 }
 
-/// The same, of a shape that few words say.
+/// The same, of a shape that a few items can write.
 pub fn brief_table(g: &mut Generator, turn: usize, length: usize) -> Vec<u16> {
     with_runs(g, BRIEF_SHAPES[turn % BRIEF_SHAPES.len()], length)
 }

@@ -8,7 +8,7 @@ use std::io::{BufWriter, Stdout, Write, stdout};
 
 pub struct Transcript {
     out: BufWriter<Stdout>,
-    /// Whether it is the recorded list, whose long tables are such as few words say.
+    /// Whether it is the recorded list, whose long tables are such as a few items can write.
     pub brief: bool,
     /// The bytes of the tag that groat keeps.
     tag: String,

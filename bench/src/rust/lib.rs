@@ -1,6 +1,6 @@
-//! The text of moxcms, taken in unchanged as the oracle does it (oracle/src/text), built as a release would be, with doors
-//! for the benchmark. A door is what a caller in C meets; a function that ends in `_loop` or `_row` has the loop around the Rust's
-//! routine in the Rust's own crate, so that the compiler may inline it.
+//! The text of moxcms, taken in unchanged as the oracle does it (oracle/src/text), built as a release would be, with
+//! doors for the benchmark. A door is what a caller in C meets; a function that ends in `_loop` or `_row` has the loop
+//! around the Rust's routine in the Rust's own crate, so that the compiler may inline it.
 
 #[path = "../../../oracle/src/text/profile.rs"]
 #[allow(dead_code)]

@@ -1,5 +1,5 @@
-// A door to `write_trc_entry`, which is private to writer.rs. It writes into a `Vec` that keeps its room from call to call,
-// as a buffer that is lent does, so that no call pays for memory.
+// A door to `write_trc_entry`, which is private to writer.rs. It writes into a `Vec` that keeps its room from call to
+// call, as a buffer that is lent does, so that no call pays for memory.
 
 use crate::trc::ToneReprCurve;
 use std::slice::{from_raw_parts, from_raw_parts_mut};

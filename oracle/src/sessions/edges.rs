@@ -83,8 +83,8 @@ fn near_one(g: &mut Generator, numbers: [usize; 2], reach: usize) -> u16 {
 /// Divisors of 65535.
 const DIVISORS: [usize; 10] = [3, 5, 15, 17, 51, 85, 255, 257, 771, 1285];
 
-/// Tables with one step, beside an entry that lies at a whole position, asked so that the search ends there. Of those
-/// entries mostly such as the f64 steps miss: the position that is the entry's then seems to lie in a cell beside it.
+/// Tables with one step, beside an entry that lies at a whole position, asked so that the search ends there. Most of
+/// these entries are such as the f64 steps miss: the entry's own position then seems to lie in a cell beside it.
 pub fn borders(t: &mut Transcript, g: &mut Generator, until: u64) {
     while t.asked() < until {
         let divisor = g.pick(&DIVISORS);

@@ -8,7 +8,7 @@ mod on_tables;
 use crate::generator::Generator;
 use crate::transcript::Transcript;
 
-/// Asks until the transcript has so many answers, or asks what it always asks.
+/// Asks until the transcript has this many answers. A session without a share always asks the same.
 type Session = fn(&mut Transcript, &mut Generator, u64);
 
 /// Each session, how many answers it is to have for each thousand that are asked for, and what the transcript says of
@@ -41,8 +41,8 @@ const SESSIONS: [(Session, u64, &str); 25] = [
     (on_tables::random, 256, "Tables of every shape, and of other lengths"),
 ];
 
-/// Writes this many answers or some more, each session's from a random stream of its own. Some sessions have no more
-/// than so much to ask: the last one goes on until there are enough.
+/// Writes this many answers or some more, each session's from a random stream of its own. Some sessions run out of
+/// questions, so the last one goes on until there are enough answers.
 pub fn write_all(t: &mut Transcript, answers: u64, seed: u64) {
     for (number, (session, share, title)) in SESSIONS.into_iter().enumerate() {
         t.comment(&format!("{title}."));

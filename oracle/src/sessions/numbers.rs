@@ -72,11 +72,11 @@ fn any_raw(g: &mut Generator) -> i32 {
     }
 }
 
-/// Curves that are asked about at least, and pairs that are compared, however short the run is. Each is a request of
-/// its own, and takes groat longer than a list of questions does.
+/// The fewest curves that are asked about, and the fewest pairs that are compared, however short the run is. Each is a
+/// request of its own, and takes groat longer than a list of questions does.
 const LEAST: u64 = 200;
 
-/// Counts from 0 to 8, most of them such as a curve has.
+/// From 0 to 8 parameters, mostly as many as a curve has.
 pub fn param(t: &mut Transcript, g: &mut Generator, until: u64) {
     let until = until.max(t.asked() + LEAST);
     for count in 0..9 {

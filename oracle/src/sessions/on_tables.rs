@@ -112,7 +112,7 @@ pub fn short(t: &mut Transcript, _: &mut Generator, until: u64) {
     }
 }
 
-/// Large tables that are asked about at most: each length is taken once at least, and then as there is room.
+/// The most large tables that are asked about. Each length is taken once at least, and again while there is room.
 const MANY: usize = 64;
 
 pub fn long(t: &mut Transcript, g: &mut Generator, until: u64) {

@@ -2,7 +2,8 @@
 //! stand-ins of ours for what it asks for and the comparison does not want.
 //!
 //! It is built twice. As `moxcms` it is the Rust as it stands. As `widened`, with `--cfg wide`, the names `i32` and
-//! `u32` mean `i64` and `u64` inside trc.rs: where the Rust overflows, the same text then gives the whole-number answer.
+//! `u32` mean `i64` and `u64` inside trc.rs, so that where the Rust overflows the same text gives the whole-number
+//! answer.
 //!
 //! With `--cfg fused` the stand-in for `MulAdd` rounds once, otherwise twice (stand_ins.rs).
 
