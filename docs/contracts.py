@@ -8,7 +8,7 @@ they mean one thing.
 import os
 import re
 from collections import namedtuple
-from functools import cache
+from functools import cache, wraps
 
 FACE = "crates/brassgroat"
 # What a contract may be beside an equation and a promise: a promise of the library, carried over to the face's places.
@@ -22,7 +22,7 @@ EQUAL = "mathlib.Core.Path:_≡_"
 # In a carried promise: the library's answer, which it is about.
 INNER = "•"
 
-Function = namedtuple("Function", "path within name signature parameters lent clauses public exported")
+Function = namedtuple("Function", "path within name signature parameters lent clauses public exported span")
 # The answer's name, and either what it equals or what is promised of it.
 Contract = namedtuple("Contract", "answer equal promise")
 # The names that a law binds, its two premises, and the equalities that it ends in.
@@ -40,6 +40,25 @@ def text(path):
 
 
 @cache
+def text_if_there(path):
+    return text(path) if os.path.exists(path) else None
+
+
+def of_file(function):
+    """Keeps what a function gives of a file for as long as the file's text is the same, or is not there."""
+    kept = {}
+
+    @wraps(function)
+    def same(path, *words):
+        content, key = text_if_there(path), (path, *words)
+        if key not in kept or kept[key][0] != content:
+            kept[key] = content, function(path, *words)
+        return kept[key][1]
+
+    return same
+
+
+@of_file
 def bare(path):
     """A file with blanks for its comments, which nest, and for the signs in its strings."""
     line, begin, end = ("//", "/*", "*/") if path.endswith(".rt") else ("--", "{-", "-}")
@@ -74,7 +93,7 @@ def closing(source, at):
 BETWEEN = r"(?:[^{;[]|\[[^\]]*\])*?"
 
 
-@cache
+@of_file
 def functions(path):
     """Each function of a file: the modules and the type that it stands in, its contract, and who can call it."""
     source, listed = bare(path), []
@@ -98,32 +117,42 @@ def functions(path):
         within += [name for opens, shuts, name in blocks if opens <= found.start() < shuts]
         parameters, lent = [name for name, _ in named], [name for name, mutable in named if mutable]
         exported = not {"no_mangle", "export_name"}.isdisjoint(own)
-        listed.append(Function(path, within, found[1], signature, parameters, lent, clauses, "pub" in own, exported))
+        opened = re.compile(r"\S").search(source, begun).start()
+        span = opened, closing(source, source.find("{", end)) + 1
+        form = signature, parameters, lent, clauses
+        listed.append(Function(path, within, found[1], *form, "pub" in own, exported, span))
     return listed
 
 
 # ---- antt: what names mean, and what expressions are.
 
 
-@cache
+@of_file
 def declared(path):
     """Every name that a file declares, at any depth."""
     form = r"(?m)^\s*(?:abbrev |unfoldable )?(?:pub )?(?:(?:record|data) (\S+)|(\S+) :(?: |$))"
     return {a or b for a, b in re.findall(form, bare(path))}
 
 
-@cache
+@of_file
 def definitions(path):
-    """The text of each public definition of a file."""
-    bodies, name = {}, None
+    """The text of each public definition of a file, at the margin or in modules, whose heads are part of it."""
+    bodies, name, modules = {}, None, []
     for line in bare(path).splitlines() if os.path.exists(path) else []:
-        if begun := re.match(r"(?:abbrev |unfoldable )?pub (?:record |data )?(\S+)", line):
+        indent = len(line) - len(line.lstrip())
+        modules = [module for module in modules if not line.strip() or module.index(module.strip()) < indent]
+        begun = re.match(r" *(?:abbrev |unfoldable )?pub (?!mod )(?:record |data )?(\S+)", line)
+        if re.match(r" *module ", line):
+            modules, name = [*modules, line], None
+        elif begun and indent == 2 * len(modules):
             name = begun[1]
+            bodies[name] = "\n".join(modules) + "\n" if modules else ""
         if name:
-            bodies[name] = bodies.get(name, "") + line + "\n"
+            bodies[name] += line + "\n"
     return bodies
 
 
+@cache
 def home(module):
     """A module's file if it is ours, its name if it is not."""
     module = re.sub(r"·(specs|proofs)\.\1\b", r".\1", module)
@@ -231,7 +260,7 @@ def holds(tree, part):
     return tree == part or isinstance(tree, tuple) and any(holds(inner, part) for inner in tree)
 
 
-@cache
+@of_file
 def stated(path, pattern):
     """What a file says from a pattern on, to the end of its indented lines, and what the modules around it bind; or
     nothing, unless that is there once, at the margin or in modules alone."""
@@ -321,6 +350,11 @@ def contract_of(function):
         strict = strict and meanings(function.path).get("_≡_") == EQUAL
     if not strict:
         raise Weak("it must be `r ≡ ..`, `..Promise .. r ..`, `Carried .. r` or `PartCarried .. r` alone")
+    for leaf in leaves(contract.promise or contract.equal):
+        path, _, name = leaf.rpartition(":")
+        plain = leaf in ("now", INNER, answer, *function.parameters) or leaf.startswith(".")
+        if not plain and not (path.startswith("crates/") and name in declared(path)):
+            raise Weak(f"it says `{name}`, which is no definition of ours")
     for name in function.parameters:
         if name not in leaves(contract[1:]):
             raise Weak(f"it says nothing of `{name}`")

@@ -1,5 +1,5 @@
-"""Ways to let contracts, laws, doors and pages say less than they seem to: docs/check-promises --self-test tries each on
-a copy of the tree, and demands that the check reports it.
+"""Ways to let contracts, laws, doors and pages say less than they seem to: docs/check-promises --self-test tries each
+on a copy of the tree, and demands that the check reports it.
 """
 import os
 import re
@@ -8,10 +8,12 @@ import tempfile
 from glob import glob
 
 import contracts
+import made
 
 FACE, LOOKUP, LAWS = contracts.FACE, "crates/lookup/src/lib.rt", "crates/lookup/proofs/Promises.antt"
 LOOKUPS, INVERSES, TABLE = f"{FACE}/src/lookups.rt", f"{FACE}/src/inverses.rt", "crates/table/src/lib.rt"
 LOGGED, POWERS = "crates/logged/src/lib.rt", "crates/power_curve/src/lib.rt"
+PAGE, TRACE, TOLD = "docs/PROMISES.md", "docs/TRACE.md", "crates/lookup/proofs/LookupLaws.antt"
 # How the check begins what it says.
 OF_LOOKUP, OF_BAKE = "lut_interp_linear16: its contract: ", "bg_bake: its contract: "
 OF_FACE = "its law of one answer, `bg-passthrough-one`: it"
@@ -57,6 +59,11 @@ def law(old, new):
     return LAWS, f"pub lookup-one :{old}", f"pub lookup-one :{new}"
 
 
+def told(name, end):
+    """The comment of a law of the lookup with another end, for its full stop and its marker."""
+    return TOLD, rf"\. \[[^\]]*\](\n(?:abbrev )?pub {name} )", rf"{end}\1"
+
+
 def more(path, added):
     return path, r"\Z", added
 
@@ -92,7 +99,7 @@ WEAKENINGS = [
     ),
     (
         "a contract turns an argument into something that the page does not tell",
-        "`power_curve::tag_power`: the contract rests on `tableOf`",
+        "`power_curve::tag_power`: what stands under Definition is not what the tree gives, without `exponentOf`, with",
         (POWERS, r"(PowerPromise x )\(exponentOf gamma\)", r"\1(tableOf gamma)"),
     ),
     (
@@ -108,9 +115,19 @@ WEAKENINGS = [
     ("an equality is another", "within: its contract: ", (TABLE, r"mathlib\.Core\.Path(\.\{_≡_)", r"lib.Path\1")),
     (
         "a promise of that name is another",
-        "`lookup::lut_interp_linear16`: Definition",
+        "`lookup::lut_interp_linear16`: what stands under Definition",
         (LOOKUP, r"(Rattle\.lookup\.specs\.)Promises(\.\{[^}]*LookupPromise)", r"\1Loose\2"),
         ("crates/lookup/specs/Loose.antt", None, "pub record LookupPromise : Type 0 where\n"),
+    ),
+    (
+        "a contract changes an argument by what is not ours",
+        "within: its contract: it says `suc`",
+        put(TABLE, "within", "r ≡ within low high (suc n)"),
+    ),
+    (
+        "a promise is not where the contract takes it from",
+        "least_input: its contract: it says `LeastPromise`",
+        ("crates/least/specs/Promises.antt", "record LeastPromise ", "record LeastPromised "),
     ),
     (
         "an export has another routine's contract",
@@ -144,7 +161,7 @@ WEAKENINGS = [
     (
         "an export's law is over another promise",
         "`bg-invert-one`: it is about",
-        ("docs/PROMISES.md", r"(\| `bg_bake` \| `rows::bake` \| )`bg-bake-one`", r"\1`bg-invert-one`"),
+        (PAGE, r"(\| `bg_bake` \| `rows::bake` \| )`bg-bake-one`", r"\1`bg-invert-one`"),
     ),
     ("a law has a third premise", "`lookup-one`: it must go", law(r"((?: \{[^}]*\})+ → )", r"\1length t ≡ 0 → ")),
     ("a law asks for the impossible", "`lookup-one`: it asks", law("", " {h : ⊥}")),
@@ -180,10 +197,34 @@ WEAKENINGS = [
         "`house::entries::curve` has no block",
         more("crates/house/src/lib.rt", "pub use entries::curve;\n"),
     ),
-    ("the face is called a program", "is the face", ("docs/PROMISES.md", "no blocks:", "no blocks: `brassgroat`;")),
+    ("the face is called a program", "is the face", (PAGE, "no blocks:", "no blocks: `brassgroat`;")),
+    # Made lines that are not what the tree gives, and markers that tell nothing.
+    ("a made line is cut by hand", "Must fail is not what", (PAGE, r"(Must fail\*\*: )`constant_lookup`, ", r"\1")),
+    ("a law is told otherwise", "under Laws is not what", (PAGE, r"(lookup-never-falls`: )In", r"\1Not in")),
+    ("a signature is another", "`rows::bake`: its signature", (PAGE, r"    pub fn bake\(", "    pub fn baked(")),
+    ("a made line stands elsewhere", "--write", (PAGE, r"(\n- \*\*Tried[^\n]*)(\n- [^\n]*)", r"\2\1")),
+    ("a law loses its marker", "under Laws is not what the tree gives, without", told("lookup-reaches", ".")),
+    ("a marker names no call", "[lookup::gone], which is no call", told("lookup-reaches", ". [lookup::gone]")),
+    ("a marker stands above no law", "stands above no law", (TOLD, r"(\]\n)(pub lookup-reaches )", r"\1\n\2")),
+    ("a marker has no sentence", "comment with a full stop", told("lookup-demand", " [lookup::lut_interp_linear16]")),
+    (
+        "an edit changes a text that is not there",
+        "what it changes is not in crates/lookup/src/lib.rt",
+        ("crates/lookup/must-fail/constant_lookup.edit", r"\nold: ", r"\nold: not "),
+    ),
+    # Written lines that tell too little.
+    ("a refusal is not told", "the ladder's numbers are 1, 6:", (PAGE, r"\*\*6\*\* `out` has not 65,536 entries", "6")),
+    ("a lent buffer is not told", "`out` is lent for writing", (PAGE, r"(\*\*After\*\*: entry p of )`out`", r"\1it")),
+    ("what is tried is not told", "must be, each once and", (PAGE, r"\n- \*\*Tried\*\*: oracle 4[^\n]*", "")),
+    ("a routine of the oracle is not named", "no block is tried by routine 4", (PAGE, "oracle 4;", "nothing;")),
     # Pages that cite what is not there.
-    ("an edit that is gone is cited", "`gone`", more("docs/HONESTY.md", "lookup/must-fail `gone`\n")),
-    ("a law that is gone is cited", "`gone`", more("docs/SENTENCES.md", "table/proofs/Order `fact-test`,\n`gone`\n")),
+    ("an edit that is gone is cited", "`gone`", more(TRACE, "lookup/must-fail `gone`\n")),
+    ("a law that is gone is cited", "`gone`", more(TRACE, "table/proofs/Order `fact-test`,\n  `gone`\n")),
+    ("a field that is gone is cited", "`gone`", more(TRACE, "least/specs/Demand `LeastIs` (the\n  field `gone`)\n")),
+    ("a run that is gone is cited", "tests/gone.txt, which", more(TRACE, "tests/gone.txt\n")),
+    ("a run's words that are gone are cited", 'for "gone"', more(TRACE, 'tests/log.txt, "gone"\n')),
+    ("a part that is gone is cited", 'no part "gone"', more(TRACE, 'see "gone"\n')),
+    ("a definition that is gone is told of", "names `GoneDemand`", (PAGE, "`SittingDemand` is", "`GoneDemand` is")),
 ]
 
 
@@ -209,16 +250,17 @@ def try_all(check, faults):
 
     def found():
         faults.clear()
-        for value in vars(contracts).values():
+        for value in [*vars(contracts).values(), *vars(made).values()]:
             getattr(value, "cache_clear", int)()
         check()
         return set(faults)
 
     unnoticed, root = [], os.getcwd()
     with tempfile.TemporaryDirectory() as room:
-        for part in ("crates", "docs", "face", "oracle", "tests"):
+        for part in ("crates", "docs", "examples", "face", "include", "oracle", "tests"):
             shutil.copytree(part, f"{room}/{part}")
-        shutil.copy("crates.txt", room)
+        for file in ("crates.txt", "README.md"):
+            shutil.copy(file, room)
         os.chdir(room)
         # So that one line can be missed: every export is named by an edit.
         exports = re.findall(r"fn (bg_\w+)", "".join(map(contracts.text, glob(f"{FACE}/src/*.rt"))))

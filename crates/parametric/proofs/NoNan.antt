@@ -130,7 +130,8 @@ pub new-no-nan : {params : List Float} {r : Unified} → ((i : ℕ) → i < leng
     → NewPromise params r → Kept NotNan (length params) (valueOfUnified r)
 new-no-nan = new-kept NotNan zero-not one-not
 
--- d is a NaN only of three and of four, where a and b are both 0 or both infinite. [parametric::ParametricCurve::new]
+-- Where no parameter is a NaN, d is a NaN only for three or four parameters, and only if a and b are both 0 or both
+-- infinite. [parametric::ParametricCurve::new]
 pub new-d-nan : {n : ℕ} {y : ParametricCurve} → Kept NotNan n y → y .d ≡ nan
     → ((n ≡ 3) ⊎ (n ≡ 4)) × Unquotable (y .b) (y .a)
 new-d-nan {n} {y} k e =
