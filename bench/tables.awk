@@ -1,10 +1,12 @@
-# The tables of docs/BENCHMARK.md, from a file of instructions and one of nanoseconds, with lines of: call, side, n, number.
-# Where a line comes again, the least number counts. Ratios are ours over the other's: below 1 we take less.
+# The targets' table of docs/BENCHMARK.md and the tables of bench/RESULTS.md, from a file of instructions and one of
+# nanoseconds, with lines of: call, side, n, number. Where a line comes again, the least number counts. Ratios are ours
+# over the other's: below 1 we take less.
 
 BEGIN {
     sizes = split("256 1024 4096 65536", size, " ")
     thousands["256"] = "256"; thousands["1024"] = "1,024"; thousands["4096"] = "4,096"; thousands["65536"] = "65,536"
-    calls = split("lookup row bake baked-row baked-row-near least least-row inverse invert read write accept sorted nudge log-nudge take-back float linear loop", call, " ")
+    calls = split("lookup row bake baked-row baked-row-near least least-row inverse invert read write accept sorted " \
+        "nudge log-nudge take-back float linear loop", call, " ")
     label["lookup"] = "one lookup"
     label["row"] = "a row of lookups"
     label["bake"] = "bake, each position"
@@ -13,7 +15,7 @@ BEGIN {
     label["least"] = "one least input; the Rust: its inverse"
     label["least-row"] = "a row of least inputs; the Rust: its inverse for each"
     label["inverse"] = "one inverse"
-    label["invert"] = "`invert_lut` to 4,096 entries, each; Little CMS: a reversed curve"
+    label["invert"] = "`invert_lut` to 4,096 entries, each; Little CMS: a reversal"
     label["read"] = "curv read, each entry; the Rust: a plain loop"
     label["write"] = "curv write, each entry"
     label["accept"] = "accept, each entry; the Rust: a plain loop over neighbours"
@@ -70,7 +72,8 @@ function row(kind, name, n,    ours, called, inlined, lcms) {
 function table(kind, title,    c, s) {
     if (!have[kind]) return
     printf "\n### %s\n\n", title
-    print "| call | n | ours | the Rust, called | the Rust, in its own loop | Little CMS | ours to called | ours to its own loop | ours to Little CMS |"
+    print "The columns \"to ..\" are ratios, ours to the other's.\n"
+    print "| call | n | ours | Rust, called | Rust, own loop | Little CMS | to called | to own loop | to Little CMS |"
     print "|---|---|---|---|---|---|---|---|---|"
     for (c = 1; c <= calls; c++)
         for (s = 1; s <= sizes; s++)
@@ -99,7 +102,8 @@ function gamma_rows(kind, name,    s) {
 function gamma_table(kind, title,    c) {
     if (!have[kind]) return
     printf "\n### %s\n\n", title
-    print "| what | n | ours | the C library's `pow` | Little CMS | ours to `pow` | ours to Little CMS |"
+    print "The columns \"to ..\" are ratios, ours to the other's.\n"
+    print "| what | n | ours | the C library's `pow` | Little CMS | to `pow` | to Little CMS |"
     print "|---|---|---|---|---|---|---|"
     for (c = 1; c <= gammas; c++)
         gamma_rows(kind, gamma[c])
@@ -112,7 +116,8 @@ function judged_ratio(kind, name, side, most) {
 }
 
 function target(words, name, side, most) {
-    printf "| %s | %s | %s | %s |\n", words, most == "" ? "judged later" : most, judged_ratio("instructions", name, side, most), judged_ratio("ns", name, side, most)
+    printf "| %s | %s | %s | %s |\n", words, most == "" ? "judged later" : most, \
+        judged_ratio("instructions", name, side, most), judged_ratio("ns", name, side, most)
 }
 
 # Instructions more than another call of ours.
@@ -128,8 +133,8 @@ function target_whole(words, name, most) {
 
 function targets() {
     print "\n### Targets, at n = 1,024\n"
-    print "Ratios, ours to the other's; of a logged nudge instructions, and of gamma curves nanoseconds, beside their"
-    print "instructions. In bold where the target is missed.\n"
+    print "Ratios, ours to the other's. The last three rows are no ratios: the target of a logged nudge is in"
+    print "instructions, those of gamma curves are in nanoseconds. In bold where the target is missed.\n"
     print "| what | at most | instructions | ns |"
     print "|---|---|---|---|"
     target("a row on the baked table, to the Rust's row", "baked-row", "inlined", "0.20")
