@@ -3,5 +3,6 @@
 pub mod Weigh
 pub mod Steps
 pub mod Sum
+pub mod Halves
 pub mod LookupLaws
 pub mod Promises

@@ -1,6 +1,7 @@
 -- Where v steps land among n entries with cap steps from each to the next. Assumes nothing.
-use Prim.Native.Nat.{ℕ, _-_, _*_, _/_, _≤_, _<_}
-use native.Mathlib.Nat.{mul-comm, div-le-of-le-mul, mul-le-mul-right}
+use mathlib.Core.Path.{_≡_}
+use Prim.Native.Nat.{ℕ, _-_, _*_, _/_, _%_, _≤_, _<_}
+use native.Mathlib.Nat.{mul-comm, div-add-mod', div-le-of-le-mul, mul-le-mul-right}
 use native.Mathlib.Omega.{arith}
 use Rattle.table.proofs.Quotient.{ceil-le-iff}
 use Rattle.lookup.specs.Lookup.{upper, steps}
@@ -11,6 +12,10 @@ steps-le {p} {cap} n h = omega (arith, mul-le-mul-right (n - 1) h, mul-comm (n -
 
 pub steps-mono : {p q : ℕ} (n : ℕ) → p ≤ q → steps n p ≤ steps n q
 steps-mono n h = mul-le-mul-right (n - 1) h
+
+-- what the quotient leaves over
+pub rest-left : (cap v : ℕ) → v - v / cap * cap ≡ v % cap
+rest-left cap v = omega (arith, div-add-mod' v cap)
 
 module _ (cap n v : ℕ) (pos : 0 < cap) (some : 0 < n) (h : v ≤ (n - 1) * cap) where
   pub lower-lt : v / cap < n
