@@ -40,22 +40,16 @@ module _ (v : ℕ) (h : v ≤ 65535 * 65535) where
   left-is : 4294967295 - past v ≡ (65535 - over v) * 65537
   left-is = omega (arith, over-le, past-is)
 
-  pub past-le : past v ≤ 4294967295
-  past-le = omega (arith, over-le, past-is)
-
 -- the entry after the one passed, in a table that has one
 abbrev pub after : ℕ → ℕ → ℕ
 after top v = pick (ltb 0 top) (passed v + 1) (passed v)
 
 module _ (top v : ℕ) (few : top ≤ 65535) (h : v ≤ top * 65535) where
-  pub passed-le : passed v ≤ top
-  passed-le = omega arith
-
   pub after-le : after top v ≤ top
   after-le = ⊎-elim one more (eq-zero-or-pos top)
     where
       one : top ≡ 0 → after top v ≤ top
-      one e = simp (le-ltb 0 top (omega arith)) passed-le
+      one e = simp (le-ltb 0 top (omega arith)) (omega arith)
 
       more : 0 < top → after top v ≤ top
       more p = simp (lt-ltb 0 top p) (omega arith)

@@ -5,7 +5,7 @@ use Prim.Native.Nat.{_*_, _≤_}
 use native.Mathlib.Nat.{mul-le-mul-right}
 use native.Mathlib.Omega.{arith}
 use denote.Ref.{now}
-use Rattle.lookup.proofs.Halves.{past-le, passed-le, after-le, quotient-read}
+use Rattle.lookup.proofs.Halves.{after-le, quotient-read}
 use Rattle.lookup.proofs.LookupLaws.{looked-up-read}
 use borrow.Author.Needs.{needs}
 use Rattle.lookup.proofs.inside.lookup_to.Statement.{statement}
@@ -34,13 +34,13 @@ cast-interp-2 : tie.Need-cast-interp-2
 cast-interp-2 c = omega (arith, small c)
 
 add-interp : tie.Need-add-interp
-add-interp c = omega (arith, past-le _ (small c))
+add-interp c = omega (arith, small c)
 
 cast-past : tie.Need-cast-past
-cast-past c = omega (arith, past-le _ (small c))
+cast-past c = omega (arith, small c)
 
 sub-left : tie.Need-sub-left
-sub-left c = past-le _ (small c)
+sub-left c = omega (arith, small c)
 
 cast-left : tie.Need-cast-left
 cast-left c = search needs
@@ -55,16 +55,15 @@ entry-requires c κs =
 
 entry-requires-2 : tie.Need-entry-requires-2
 entry-requires-2 c κs =
-    let s = c .before .before .before .before in
-    omega (arith, passed-le (s .args .top) _ (s .pre .1) (inside (c .before .before)), s .pre .0)
+    omega (arith, inside (c .before .before), c .before .before .before .before .pre .0)
 
 mix-requires : tie.Need-mix-requires
 mix-requires c κs =
-    (c .before .entry .ensures .1, c .entry2 .ensures .1, omega (arith, past-le _ (small (c .before .before .before))))
+    (c .before .entry .ensures .1, c .entry2 .ensures .1, omega (arith, small (c .before .before .before)))
 
 -- the weights are 2^32 - 1 together
 sum-le : (c : tie.After-mix) → c .mix .result ≤ 65535 * 4294967295
-sum-le c = omega (arith, past-le _ (small (c .before .before .before .before)), c .mix .ensures .1)
+sum-le c = omega (arith, small (c .before .before .before .before), c .mix .ensures .1)
 
 add-result : tie.Need-add-result
 add-result c = omega (arith, sum-le c)

@@ -1,16 +1,17 @@
 -- `weighted` meets its contract: both entries are within the table by the bound on the steps. Assumes nothing.
-use Prim.Native.Nat.{_-_, _*_, _/_, _≤_}
-use native.Mathlib.Nat.{mod-lt, le-of-lt, div-mul-le-self, le-mul-of-pos-right}
+use mathlib.Core.Path.{_∙_}
+use Prim.Native.Nat.{_-_, _*_, _/_, _<_}
+use native.Mathlib.Nat.{mod-lt, div-mul-le-self, le-mul-of-pos-right}
 use native.Mathlib.Omega.{arith}
-use Rattle.lookup.proofs.Steps.{rest-left, lower-lt, upper-lt}
+use Rattle.lookup.proofs.Steps.{rest-left, upper-by-rest, lower-lt, upper-lt}
 use Rattle.lookup.proofs.Sum.{sum-read}
 use borrow.Author.Needs.{needs}
 use Rattle.lookup.proofs.inside.weighted.Statement.{statement}
 use Rattle.lookup.proofs.inside.weighted.Tie as tie
 
 -- k is below cap
-rest-le : (c : tie.Start) → c .args .value - c .args .value / c .args .cap * c .args .cap ≤ c .args .cap
-rest-le c = rw (rest-left (c .args .cap) (c .args .value)) (le-of-lt (mod-lt _ (c .pre .pos)))
+rest-lt : (c : tie.Start) → c .args .value - c .args .value / c .args .cap * c .args .cap < c .args .cap
+rest-lt c = rw (rest-left (c .args .cap) (c .args .value)) (mod-lt _ (c .pre .pos))
 
 div-lower : tie.Need-div-lower
 div-lower c = search needs
@@ -33,8 +34,12 @@ next-if-requires c κs =
 entry-requires : tie.Need-entry-requires
 entry-requires c κs =
     let s = c .before .before in
-    rw (c .next-if .ensures, rest-left (s .args .cap) (s .args .value))
-    (upper-lt _ _ _ (s .pre .pos) (s .pre .some) (s .pre .inside))
+    omega (
+      arith,
+      c .next-if .ensures,
+      upper-by-rest (s .args .cap) (s .args .value),
+      upper-lt _ _ _ (s .pre .pos) (s .pre .some) (s .pre .inside),
+    )
 
 entry-requires-2 : tie.Need-entry-requires-2
 entry-requires-2 c κs =
@@ -42,23 +47,21 @@ entry-requires-2 c κs =
     lower-lt _ _ _ (p .pos) (p .some) (p .inside)
 
 sub-mix : tie.Need-sub-mix
-sub-mix c = rest-le (c .before .before .before .before)
+sub-mix c = omega (arith, rest-lt (c .before .before .before .before))
 
 mix-requires : tie.Need-mix-requires
 mix-requires c κs =
-    let s = c .before .before .before .before in (
-      c .before .entry .ensures .1,
-      c .entry2 .ensures .1,
-      omega (arith, rest-le s, s .pre .small),
-    )
+    let s = c .before .before .before .before in
+    (c .before .entry .ensures .1, c .entry2 .ensures .1, omega (arith, rest-lt s, s .pre .small))
 
 returns : tie.Need-returns
 returns c =
-    let s = c .before .before .before .before .before in
-    let rest = rest-left (s .args .cap) (s .args .value) in (
-      sum-read _ _ _ (rw rest at (c .before .before .before .next-if .ensures)) (c .before .before .entry .ensures .0)
-          (c .before .entry2 .ensures .0) (rw rest at (c .mix .ensures .0)),
-      omega (arith, rest-le s, c .mix .ensures .1),
+    let reads = c .before .before in
+    let s = reads .before .before .before in (
+      sum-read _ _ _ (reads .before .next-if .ensures ∙ upper-by-rest (s .args .cap) (s .args .value))
+          (reads .entry .ensures .0) (c .before .entry2 .ensures .0)
+          (rw (rest-left (s .args .cap) (s .args .value)) at (c .mix .ensures .0)),
+      omega (arith, rest-lt s, c .mix .ensures .1),
     )
 
 pub weighted-spec : {M : Type 1} → statement M
