@@ -115,9 +115,16 @@ function judged_ratio(kind, name, side, most) {
     return judged(ratio(at(kind, name, "ours", 1024), at(kind, name, side, 1024)), most)
 }
 
-function target(words, name, side, most) {
-    printf "| %s | %s | %s | %s |\n", words, most == "" ? "judged later" : most, \
-        judged_ratio("instructions", name, side, most), judged_ratio("ns", name, side, most)
+function target(words, name, side, most) { target_each(words, name, side, most, most) }
+
+# Where nanoseconds have a target of their own.
+function target_each(words, name, side, most, most_ns) {
+    printf "| %s | %s | %s | %s |\n", words, limits(most, most_ns), judged_ratio("instructions", name, side, most), \
+        judged_ratio("ns", name, side, most_ns)
+}
+
+function limits(most, most_ns) {
+    return most == most_ns ? most : most ", and " most_ns " in ns"
 }
 
 # Instructions more than another call of ours.
@@ -139,15 +146,15 @@ function targets() {
     print "|---|---|---|---|"
     target("a row on the baked table, to the Rust's row", "baked-row", "inlined", "0.20")
     target("the same, each position near the one before it", "baked-row-near", "inlined", "0.20")
-    target("one lookup, to Little CMS's", "lookup", "lcms", "0.80")
+    target_each("one lookup, to Little CMS's", "lookup", "lcms", "0.60", "0.80")
     target("one inverse, to the Rust's", "inverse", "called", "1.00")
     target("`invert_lut`, to the Rust's", "invert", "inlined", "1.00")
     target("a row of least inputs, to the Rust's inverse for each value", "least-row", "inlined", "0.50")
     target("accept, to a plain Rust loop over neighbours", "accept", "inlined", "1.00")
     target("`lut_interp_linear_float`, to the Rust's", "float", "called", "1.20")
     target("`lut_interp_linear`, to the Rust's", "linear", "called", "1.20")
-    target("one lookup, to the Rust's", "lookup", "called", "")
-    target("a row of lookups, to the Rust's row", "row", "inlined", "")
+    target_each("one lookup, to the Rust's", "lookup", "called", "0.85", "1.00")
+    target_each("a row of lookups, to the Rust's row", "row", "inlined", "0.70", "0.80")
     target_more("one logged nudge, less one nudge", "log-nudge", "nudge", "30")
     target_whole("one value of a gamma curve, exponent 144179/65536, in ns", "power", "1000")
     target_whole("a gamma curve's table of 1,024 entries, the same exponent, in ns", "power-table", "1000000")

@@ -12,7 +12,7 @@ use Rattle.table.specs.Choice.{pick}
 use Rattle.lookup.specs.Lookup.{weighted}
 use Rattle.lookup.proofs.Sum.{sum-steps}
 
--- Of 65537 times a product of two 16-bit numbers, and 65537 more, the upper half is the product's quotient by 65535.
+-- Of a number up to 65535 · 65535, taken 65537 times and 65537 more, the quotient by 2^32 is the number's own by 65535.
 -- [lookup::lut_interp_linear16]
 pub quotient-by-halves : (w : ℕ) → w ≤ 65535 * 65535 → (w * 65537 + 65537) / 4294967296 ≡ w / 65535
 quotient-by-halves w h = omega arith
@@ -66,7 +66,8 @@ module _ (top v : ℕ) (few : top ≤ 65535) (h : v ≤ top * 65535) where
       more : 0 < top → T (after top v) * over v ≡ T (passed v + 1) * over v
       more p = simp (lt-ltb 0 top p)
 
-  -- The two entries weighed by these steps are 65537 times the sum S of document 01. [lookup::lut_interp_linear16]
+  -- The two entries weighed by the steps past the one and those left to the other, 2^32 - 1 together, are 65537 times
+  -- the sum S of document 01. [lookup::lut_interp_linear16]
   pub sum-by-halves : (T : ℕ → ℕ)
       → T (after top v) * past v + T (passed v) * (4294967295 - past v) ≡ weighted 65535 T v * 65537
   sum-by-halves T =

@@ -30,13 +30,14 @@ fn mix(hi: usize, lo: usize, past: usize, left: usize) -> usize
     hi * past + lo * left
 }
 
-// The sum of the two weighted entries, `value` steps into the table, with cap steps from each entry to the next.
+// The sum of the two weighted entries, `value` steps into the table, with cap steps from each entry to the next. One
+// division of the machine gives both quotient and rest.
 pub fn weighted(table: &[u16], value: usize, cap: usize) -> usize
     requires { ⌜ StepsFit cap (length (now table)) value ⌝ }
     ensures { λ r. ⌜ (r ≡ weighted cap (entriesOf (now (table .entry))) value) × (r ≤ 65535 * cap) ⌝ }
 {
     let lower = value / cap;
-    let interp = value - lower * cap;
+    let interp = value % cap;
     let upper = next_if(lower, interp);
     mix(
         entry(table, upper),
