@@ -1,5 +1,5 @@
--- `Sum`: the laws that both lookups share, over the divisor. `LookupLaws`: what follows for the 16-bit one. `Promises`:
--- the promise names one answer. `Weigh` and `Steps`: the arithmetic that these rest on.
+-- `Sum`: the laws that both lookups share, over the divisor. `Halves`: the 16-bit one without a division. `LookupLaws`:
+-- what follows for it. `Promises`: the promise names one answer. `Weigh` and `Steps`: the arithmetic of these.
 pub mod Weigh
 pub mod Steps
 pub mod Sum
