@@ -1,6 +1,7 @@
 -- The 16-bit lookup without a division. 65535 · 65537 is 2^32 - 1, so v steps, 65535 from each entry to the next, are
--- 65537 · v steps with 2^32 - 1 from each to the next. That is nearly 2^32: the upper half of the 64-bit number is an
--- entry that v steps pass, and both halves added are the steps past it, up to the next entry itself. Assumes nothing.
+-- 65537 · v steps with 2^32 - 1 from each to the next. That is nearly 2^32: the upper half of the 64-bit number is a
+-- cell, the index of an entry that v steps pass, and both halves added are the steps past it, up to the next entry
+-- itself. Assumes nothing.
 use mathlib.Core.Path.{_≡_, _∙_, ap, sym}
 use mathlib.Core.Logic.{⊎-elim}
 use Prim.Native.Nat.{ℕ, _+_, _-_, _*_, _/_, _%_, _≤_, _<_}
@@ -12,23 +13,22 @@ use Rattle.table.specs.Choice.{pick}
 use Rattle.lookup.specs.Lookup.{weighted}
 use Rattle.lookup.proofs.Sum.{sum-steps}
 
--- Of a number up to 65535 · 65535, taken 65537 times and 65537 more, the quotient by 2^32 is the number's own by 65535.
--- [lookup::lut_interp_linear16]
+-- up to 65535 · 65535 the quotient of 65537·w + 65537 by 2^32 is that of w by 65535
 pub quotient-by-halves : (w : ℕ) → w ≤ 65535 * 65535 → (w * 65537 + 65537) / 4294967296 ≡ w / 65535
 quotient-by-halves w h = omega arith
 
--- the entry passed, the steps past it, and those of 65535 that they stand for
-abbrev pub passed : ℕ → ℕ
-passed v = v * 65537 / 4294967296
+-- the cell, the steps past it, and the same in steps of which 65535 lead to the next entry
+abbrev pub cell : ℕ → ℕ
+cell v = v * 65537 / 4294967296
 
 abbrev pub past : ℕ → ℕ
-past v = v * 65537 % 4294967296 + passed v
+past v = v * 65537 % 4294967296 + cell v
 
 abbrev over : ℕ → ℕ
-over v = v - passed v * 65535
+over v = v - cell v * 65535
 
 module _ (v : ℕ) (h : v ≤ 65535 * 65535) where
-  parted : v ≡ passed v * 65535 + over v
+  parted : v ≡ cell v * 65535 + over v
   parted = omega arith
 
   over-le : over v ≤ 65535
@@ -40,9 +40,9 @@ module _ (v : ℕ) (h : v ≤ 65535 * 65535) where
   left-is : 4294967295 - past v ≡ (65535 - over v) * 65537
   left-is = omega (arith, over-le, past-is)
 
--- the entry after the one passed, in a table that has one
+-- the entry after the cell, but in a table of one entry that entry
 abbrev pub after : ℕ → ℕ → ℕ
-after top v = pick (ltb 0 top) (passed v + 1) (passed v)
+after top v = pick (ltb 0 top) (cell v + 1) (cell v)
 
 module _ (top v : ℕ) (few : top ≤ 65535) (h : v ≤ top * 65535) where
   pub after-le : after top v ≤ top
@@ -55,37 +55,36 @@ module _ (top v : ℕ) (few : top ≤ 65535) (h : v ≤ top * 65535) where
       more p = simp (lt-ltb 0 top p) (omega arith)
 
   -- in a table of one entry nothing is over, so the entry after it has no weight
-  after-weighs : (T : ℕ → ℕ) → T (after top v) * over v ≡ T (passed v + 1) * over v
+  after-weighs : (T : ℕ → ℕ) → T (after top v) * over v ≡ T (cell v + 1) * over v
   after-weighs T = ⊎-elim one more (eq-zero-or-pos top)
     where
-      one : top ≡ 0 → T (after top v) * over v ≡ T (passed v + 1) * over v
+      one : top ≡ 0 → T (after top v) * over v ≡ T (cell v + 1) * over v
       one e =
           let none : over v ≡ 0 = omega arith in
           rw none (mul-zero _ ∙ sym (mul-zero _))
 
-      more : 0 < top → T (after top v) * over v ≡ T (passed v + 1) * over v
+      more : 0 < top → T (after top v) * over v ≡ T (cell v + 1) * over v
       more p = simp (lt-ltb 0 top p)
 
-  -- The two entries weighed by the steps past the one and those left to the other, 2^32 - 1 together, are 65537 times
-  -- the sum S of document 01. [lookup::lut_interp_linear16]
+  -- the two entries, weighed by the steps past the one and those left to the other, are 65537 times the sum S
   pub sum-by-halves : (T : ℕ → ℕ)
-      → T (after top v) * past v + T (passed v) * (4294967295 - past v) ≡ weighted 65535 T v * 65537
+      → T (after top v) * past v + T (cell v) * (4294967295 - past v) ≡ weighted 65535 T v * 65537
   sum-by-halves T =
       let small : v ≤ 65535 * 65535 = omega arith in
-      let whole : weighted 65535 T v ≡ T (passed v + 1) * over v + T (passed v) * (65535 - over v) =
-      ap (weighted 65535 T) (parted v small) ∙ sum-steps 65535 T (lit< tt) (passed v) (over v) (over-le v small) in
-      ap (λ (x : ℕ). T (after top v) * x + T (passed v) * (4294967295 - past v)) (past-is v small)
-      ∙ ap (λ (x : ℕ). T (after top v) * (over v * 65537) + T (passed v) * x) (left-is v small)
+      let whole : weighted 65535 T v ≡ T (cell v + 1) * over v + T (cell v) * (65535 - over v) =
+      ap (weighted 65535 T) (parted v small) ∙ sum-steps 65535 T (lit< tt) (cell v) (over v) (over-le v small) in
+      ap (λ (x : ℕ). T (after top v) * x + T (cell v) * (4294967295 - past v)) (past-is v small)
+      ∙ ap (λ (x : ℕ). T (after top v) * (over v * 65537) + T (cell v) * x) (left-is v small)
       ∙ omega (
         arith,
         mul-assoc (T (after top v)) (over v) 65537,
-        mul-assoc (T (passed v)) (65535 - over v) 65537,
+        mul-assoc (T (cell v)) (65535 - over v) 65537,
         after-weighs T,
         whole,
       )
 
   -- the quotient, from two entries that were read
-  pub quotient-read : (T : ℕ → ℕ) {u hi lo s : ℕ} → u ≡ after top v → hi ≡ T u → lo ≡ T (passed v)
+  pub quotient-read : (T : ℕ → ℕ) {u hi lo s : ℕ} → u ≡ after top v → hi ≡ T u → lo ≡ T (cell v)
       → s ≡ hi * past v + lo * (4294967295 - past v) → s ≤ 65535 * 4294967295
       → (s + 65537) / 4294967296 ≡ weighted 65535 T v / 65535
   quotient-read T {s = s} e f g r b =

@@ -11,15 +11,15 @@ ghost use Rattle.table.specs.Sizes.{sized};
 ghost use Rattle.lookup.specs.Inside.{StepsFit};
 ghost use Rattle.lookup.specs.Lookup.{weighted, entriesOf, lookedUp};
 
-// The index after `lower` where there is more, else `lower`.
-fn next_if(lower: usize, more: usize) -> usize
-    requires { ⌜ lower + more < 2 ^ 64 ⌝ }
-    ensures { λ r. ⌜ r ≡ pick (ltb 0 more) (lower + 1) lower ⌝ }
+// The index after i where `more` is above 0, else i.
+fn next_if(i: usize, more: usize) -> usize
+    requires { ⌜ i + more < 2 ^ 64 ⌝ }
+    ensures { λ r. ⌜ r ≡ pick (ltb 0 more) (i + 1) i ⌝ }
 {
     if 0 < more {
-        return lower + 1;
+        return i + 1;
     }
-    lower
+    i
 }
 
 // Two entries weighed by how near each is, `past` steps after the lower one and with `left` steps to the upper one.
@@ -30,8 +30,8 @@ fn mix(hi: usize, lo: usize, past: usize, left: usize) -> usize
     hi * past + lo * left
 }
 
-// The sum of the two weighted entries, `value` steps into the table, with cap steps from each entry to the next. One
-// division of the machine gives both quotient and rest.
+// The gamma lookup's sum of the two weighted entries, `value` steps into the table, with cap steps from each entry to
+// the next. One division of the machine gives both quotient and rest.
 pub fn weighted(table: &[u16], value: usize, cap: usize) -> usize
     requires { ⌜ StepsFit cap (length (now table)) value ⌝ }
     ensures { λ r. ⌜ (r ≡ weighted cap (entriesOf (now (table .entry))) value) × (r ≤ 65535 * cap) ⌝ }
@@ -48,20 +48,22 @@ pub fn weighted(table: &[u16], value: usize, cap: usize) -> usize
 }
 
 // The 16-bit lookup in a table whose last index is `top`, so that a row of lookups works it out once. It makes
-// 65535 · 65537 steps from each entry to the next, and that is 2^32 - 1: so the halves of a 64-bit number of steps tell
-// the entry and the steps past it, and no division is left. The weights are worked out before the entries are read,
-// which spares the machine code a copy.
+// 65535 · 65537 steps from each entry to the next, and that is 2^32 - 1: so of a 64-bit number of steps the upper half
+// is the cell, the index of an entry that they pass, and both halves added are the steps past it. Steps that end on an
+// entry other than the first are counted from the one before it. So the upper entry is always the next, but in a table
+// of one entry. The sum is 65537 times document 01's, and with 65537 more its upper half is the answer. The weights are
+// worked out in 32 bits, and before the entries are read: that takes the fewest instructions.
 pub fn lookup_to(table: &[u16], top: usize, p: u16) -> u16
     requires { ⌜ (length (now table) ≡ top + 1) × (top ≤ 65535) ⌝ }
     ensures { λ r. ⌜ r ≡ lookedUp (now (table .entry)) p ⌝ }
 {
-    let value = wide(p) * top * 65537;
-    let lower = value >> 32;
-    let interp = (value % 4294967296) as u32 + lower as u32;
-    let past = interp as usize;
-    let left = (4294967295 - interp) as usize;
-    let upper = next_if(lower, top);
-    let sum = mix(entry(table, upper), entry(table, lower), past, left);
+    let steps = wide(p) * top * 65537;
+    let cell = steps >> 32;
+    let halves = (steps % 4294967296) as u32 + cell as u32;
+    let past = halves as usize;
+    let left = (4294967295 - halves) as usize;
+    let upper = next_if(cell, top);
+    let sum = mix(entry(table, upper), entry(table, cell), past, left);
     ((sum + 65537) >> 32) as u16
 }
 

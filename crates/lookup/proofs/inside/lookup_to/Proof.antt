@@ -21,20 +21,20 @@ small c = omega (arith, inside c)
 wide-requires : tie.Need-wide-requires
 wide-requires c κs = search needs
 
-mul-value : tie.Need-mul-value
-mul-value c = omega (arith, small c)
+mul-steps : tie.Need-mul-steps
+mul-steps c = omega (arith, small c)
 
-mul-value-2 : tie.Need-mul-value-2
-mul-value-2 c = omega (arith, small c)
+mul-steps-2 : tie.Need-mul-steps-2
+mul-steps-2 c = omega (arith, small c)
 
-cast-interp : tie.Need-cast-interp
-cast-interp c = search needs
+cast-halves : tie.Need-cast-halves
+cast-halves c = search needs
 
-cast-interp-2 : tie.Need-cast-interp-2
-cast-interp-2 c = omega (arith, small c)
+cast-halves-2 : tie.Need-cast-halves-2
+cast-halves-2 c = omega (arith, small c)
 
-add-interp : tie.Need-add-interp
-add-interp c = omega (arith, small c)
+add-halves : tie.Need-add-halves
+add-halves c = omega (arith, small c)
 
 cast-past : tie.Need-cast-past
 cast-past c = omega (arith, small c)
@@ -84,11 +84,11 @@ lookup-to-spec =
     tie.close
     (tie.spec
     wide-requires
-    mul-value
-    mul-value-2
-    cast-interp
-    cast-interp-2
-    add-interp
+    mul-steps
+    mul-steps-2
+    cast-halves
+    cast-halves-2
+    add-halves
     cast-past
     sub-left
     cast-left
