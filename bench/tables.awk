@@ -109,7 +109,7 @@ function gamma_table(kind, title,    c) {
         gamma_rows(kind, gamma[c])
 }
 
-function judged(x, most) { return x == "" || most == "" || x + 0 <= most + 0 ? x : "**" x "**" }
+function judged(x, most) { return x == "" || x + 0 <= most + 0 ? x : "**" x "**" }
 
 function judged_ratio(kind, name, side, most) {
     return judged(ratio(at(kind, name, "ours", 1024), at(kind, name, side, 1024)), most)
