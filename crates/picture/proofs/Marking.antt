@@ -10,7 +10,8 @@ use Rattle.table.proofs.Choice.{never}
 use Rattle.placing.specs.declared.inside.Reach.{Reach}
 use Rattle.placing.specs.Place.{rowOf}
 use Rattle.placing.specs.Reach.{Reaches}
-use Rattle.picture.specs.Plot.{firstOf, lastOf, Passed, Tells}
+use Rattle.placing.specs.Falls.{Tells}
+use Rattle.picture.specs.Plot.{firstOf, lastOf, Passed}
 use Rattle.placing.proofs.Placing.{row-falls}
 
 module _ (t : List ℕ) (c row : ℕ) (r : Reach) (h : Reaches t (firstOf c) (lastOf c) r) where

@@ -1,7 +1,6 @@
 -- What stands in a column of the plot at a row. Assumes nothing.
 use Prim.Native.Nat.{ℕ, _+_, _-_, _*_, _/_, _≤_}
 use mathlib.Core.Path.{_≡_}
-use mathlib.Core.Bool.{Bool, true, false}
 use mathlib.Core.List.{List}
 use Rattle.placing.specs.Place.{densityAt, rowOf, driveOf}
 use Rattle.placing.specs.Reach.{Within}
@@ -29,11 +28,6 @@ pub record Passed (t : List ℕ) (c row : ℕ) : Type 0 where
   pub valley : ℕ
   pub valley-in : Within (firstOf c) (lastOf c) valley
   pub not-above : row ≤ rowOf (densityAt t valley)
-
--- a test's answer, both ways
-pub record Tells (r : Bool) (P : Type 0) : Type 0 where
-  pub yes : r ≡ true → P
-  pub no : r ≡ false → P → ⊥
 
 -- column c has its star in the row, or in another
 abbrev pub Star : List ℕ → ℕ → ℕ → Type 0

@@ -15,7 +15,8 @@ use table::Density;
 use table::Drive;
 ghost use mathlib.Core.Path.{_≡_};
 ghost use Prim.Native.Nat.{_-_, _≤_, _<_};
-ghost use Rattle.picture.specs.Plot.{starRow, rightOf, Passed, Tells, Marked};
+ghost use Rattle.placing.specs.Falls.{Tells};
+ghost use Rattle.picture.specs.Plot.{starRow, rightOf, Passed, Marked};
 
 const ROWS: usize = 20;
 

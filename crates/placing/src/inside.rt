@@ -1,5 +1,5 @@
-// The drive of a column, and how low and how high a curve goes over a span of drives. Every drive is looked up, so that
-// no spike goes unseen. Shared helpers with preconditions; not public.
+// The drive of a column; how low and how high a curve goes over a span of drives, and whether it falls there. Every
+// drive is looked up, so that no spike goes unseen. Shared helpers with preconditions; not public.
 use crate::place::density_at;
 use table::Density;
 use table::Drive;
@@ -7,6 +7,7 @@ ghost use mathlib.Core.Path.{_≡_};
 ghost use Prim.Native.Nat.{_≤_, _<_};
 ghost use Rattle.placing.specs.Place.{driveOf};
 ghost use Rattle.placing.specs.Reach.{PointAt, Replaced, Reaches};
+ghost use Rattle.placing.specs.Falls.{FallsAt, Falls, Tells};
 
 // The drive at which a column shows the curve.
 pub fn drive_of(column: usize) -> Drive
@@ -64,4 +65,27 @@ pub fn reach_over(table: &[u16], first: usize, last: usize) -> Reach
         peak = replaced(peak, here, peak.density.0 < here.density.0);
     }
     Reach { valley, peak }
+}
+
+// Whether the curve falls from a drive to the next.
+fn falls_at(table: &[u16], p: usize) -> bool
+    requires { ⌜ p < 65535 ⌝ }
+    ensures { λ r. ⌜ Tells r (FallsAt (now (table .entry)) p) ⌝ }
+{
+    let here = point_at(table, p);
+    let next = point_at(table, p + 1);
+    next.density.0 < here.density.0
+}
+
+// Whether the curve falls anywhere from drive `first` to drive `last`.
+pub fn falls_over(table: &[u16], first: usize, last: usize) -> bool
+    requires { ⌜ last ≤ 65535 ⌝ }
+    ensures { λ r. ⌜ Tells r (Falls (now (table .entry)) first last) ⌝ }
+{
+    for p in first..last {
+        if falls_at(table, p) {
+            return true;
+        }
+    }
+    false
 }
