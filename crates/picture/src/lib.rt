@@ -4,11 +4,13 @@ use table::sized;
 ghost use mathlib.Core.Path.{_≡_};
 ghost use lib.ListN.{length};
 ghost use Rattle.picture.specs.Svg.{piecesOf};
+ghost use Rattle.picture.specs.Title.{isTitle};
 ghost use Rattle.picture.specs.Promises.{Drawn, LinePromise, PiecePromise};
 
 mod plot;
 mod svg;
 mod text;
+mod title;
 
 // How many parts a picture of n parts has: none where the table has no or more than 65,536 entries.
 fn drawn(table: &[u16], n: usize) -> usize
@@ -43,6 +45,14 @@ pub fn svg_pieces(table: &[u16]) -> usize
     ensures { λ r. ⌜ Drawn (now (table .entry)) (piecesOf (length (now (table .entry)))) r ⌝ }
 {
     drawn(table, svg::pieces(table.len()))
+}
+
+// Whether the bytes are a title: well-formed UTF-8 of at most 60 characters, none of them a control character, U+FFFE
+// or U+FFFF.
+pub fn is_title(title: &[u8]) -> bool
+    ensures { λ r. ⌜ r ≡ isTitle (now (title .entry)) ⌝ }
+{
+    title::suits(title)
 }
 
 // Writes piece k of the table's svg file and gives its length. The pieces from 0 on, one after the other, are the file.

@@ -1,9 +1,9 @@
-// Text in the buffer that the caller lends: bytes as they are, and numbers below 100,000 in decimal digits. Each
-// `put..` writes from a place on and gives the place after it.
+// Text in the buffer that the caller lends: bytes as they are or escaped for XML, and numbers below 100,000 in decimal
+// digits. Each `put..` writes from a place on and gives the place after it.
 ghost use mathlib.Core.Path.{_≡_};
 ghost use Prim.Native.Nat.{_+_, _≤_, _<_, _^_};
 ghost use lib.ListN.{length};
-ghost use Rattle.picture.specs.Text.{digitOf, HasDigits};
+ghost use Rattle.picture.specs.Text.{digitOf, HasDigits, escapedWidth, escapedLength};
 
 // Ten to the power k.
 fn power(k: usize) -> usize
@@ -69,4 +69,33 @@ pub fn put_with(out: &mut [u8; 512], at: usize, text: &[u8], n: usize) -> usize
 {
     let a = put(out, at, text);
     put_number(out, a, n)
+}
+
+// A byte of a text, which may not be taken for the XML around it.
+fn put_escaped_byte(out: &mut [u8; 512], at: usize, b: u8) -> usize
+    requires { ⌜ at + escapedWidth b ≤ 512 ⌝ }
+    ensures { λ r. ⌜ r ≡ at + escapedWidth b ⌝ }
+{
+    if b == b'&' {
+        return put(out, at, b"&amp;");
+    }
+    if b == b'<' {
+        return put(out, at, b"&lt;");
+    }
+    if b == b'>' {
+        return put(out, at, b"&gt;");
+    }
+    out[at] = b;
+    at + 1
+}
+
+pub fn put_escaped(out: &mut [u8; 512], at: usize, text: &[u8]) -> usize
+    requires { ⌜ at + escapedLength (now text) ≤ 512 ⌝ }
+    ensures { λ r. ⌜ r ≡ at + escapedLength (now (text .entry)) ⌝ }
+{
+    let mut end = at;
+    for i in 0..text.len() {
+        end = put_escaped_byte(out, end, text[i]);
+    }
+    end
 }
