@@ -38,16 +38,19 @@ const SPAN: usize = 51;
 const OPEN: [u8; 137] = *b"<svg xmlns=\"http://www.w3.org/2000/svg\" width=\"768\" height=\"768\" \
     viewBox=\"-8000 -4800 76800 76800\" role=\"img\">\n<title>Tone curve</title>\n";
 
-const STYLE: [u8; 280] =
-    *b"<style>\nsvg{background:#fff}\ntext{fill:#1b1b1b;font:1700px sans-serif}\n\
+const STYLE: [u8; 276] = *b"<style>\n.page{fill:#fff}\ntext{fill:#1b1b1b;font:1700px sans-serif}\n\
     .grid{stroke:#d4d4d4;stroke-width:80}\n.axis{fill:none;stroke:#1b1b1b;stroke-width:140}\n\
     .curve{fill:none;stroke:#0057b8;stroke-width:260;stroke-linejoin:round}\n\
     .entry{fill:#fff;stroke:#0057b8;stroke-width:180}\n";
 
-const DARK_STYLE: [u8; 193] =
-    *b"@media (prefers-color-scheme:dark){\nsvg{background:#14161a}\ntext{fill:#ececec}\n\
+const DARK_STYLE: [u8; 189] =
+    *b"@media (prefers-color-scheme:dark){\n.page{fill:#14161a}\ntext{fill:#ececec}\n\
     .grid{stroke:#3a3f47}\n.axis{stroke:#ececec}\n.curve{stroke:#6cb6ff}\n\
     .entry{fill:#14161a;stroke:#6cb6ff}\n}\n</style>\n";
+
+// A page of its own, since a viewer's may be of any colour.
+const PAGE: [u8; 70] =
+    *b"<rect class=\"page\" x=\"-8000\" y=\"-4800\" width=\"76800\" height=\"76800\"/>\n";
 
 const AXES: [u8; 160] = *b"<path class=\"axis\" d=\"M0,0V65535H65535\"/>\n\
     <text x=\"32768\" y=\"70700\" text-anchor=\"middle\">drive</text>\n\
@@ -109,14 +112,15 @@ fn tick(value: u16, out: &mut [u8; 512]) -> usize
     put_density_tick(out, at, Density(value))
 }
 
-// How many entries the table has, and the start of the curve's line.
+// The axes, how many entries the table has, and the start of the curve's line.
 fn curve_open(entries: usize, out: &mut [u8; 512]) -> usize
     requires { ⌜ entries ≤ 65536 ⌝ }
     ensures { λ r. ⌜ Filled r ⌝ }
 {
+    let at = put(out, 0, &AXES);
     let a = put_with(
         out,
-        0,
+        at,
         b"<text x=\"65535\" y=\"-2000\" text-anchor=\"end\">entries: ",
         entries,
     );
@@ -133,12 +137,12 @@ fn head(entries: usize, k: usize, out: &mut [u8; 512]) -> usize
         1 => description(entries, out),
         2 => put(out, 0, &STYLE),
         3 => put(out, 0, &DARK_STYLE),
-        4 => tick(0, out),
-        5 => tick(16384, out),
-        6 => tick(32768, out),
-        7 => tick(49152, out),
-        8 => tick(65535, out),
-        9 => put(out, 0, &AXES),
+        4 => put(out, 0, &PAGE),
+        5 => tick(0, out),
+        6 => tick(16384, out),
+        7 => tick(32768, out),
+        8 => tick(49152, out),
+        9 => tick(65535, out),
         _ => curve_open(entries, out),
     }
 }
