@@ -1,5 +1,5 @@
--- What the calls promise of a table that is drawn and of one that is refused. They promise lengths and no bytes: what
--- is drawn where is in `Plot` and in crate placing. Assumes nothing.
+-- What the calls promise of a table that is drawn and of one that is refused, with any title. They promise lengths and
+-- no bytes: what is drawn where is in `Plot` and in crate placing, and what is a title in `Title`. Assumes nothing.
 use Prim.Native.Nat.{ℕ, _≤_, _<_}
 use mathlib.Core.Path.{_≡_}
 use mathlib.Core.List.{List}

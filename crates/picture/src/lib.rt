@@ -56,12 +56,14 @@ pub fn is_title(title: &[u8]) -> bool
 }
 
 // Writes piece k of the table's svg file and gives its length. The pieces from 0 on, one after the other, are the file.
-// A piece that does not exist has length 0.
-pub fn svg_piece(table: &[u16], k: usize, out: &mut [u8; 512]) -> usize
+// A piece that does not exist has length 0. The file has the title as its name and draws it. With an empty one, or with
+// bytes that are no title, it is named Tone curve and draws none: so no caller has to ask `is_title` first, and every
+// file is well-formed XML.
+pub fn svg_piece(table: &[u16], title: &[u8], k: usize, out: &mut [u8; 512]) -> usize
     ensures { λ r. ⌜ PiecePromise (now (table .entry)) k r ⌝ }
 {
     if svg_pieces(table) <= k {
         return 0;
     }
-    svg::piece(table, k, out)
+    svg::piece(table, title, k, out)
 }

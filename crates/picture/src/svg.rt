@@ -6,8 +6,10 @@
 // of its lowest and of its highest density stand between them, so that no spike is lost. A table of at most 64 entries
 // has a ring at each entry too.
 use crate::text::put;
+use crate::text::put_escaped;
 use crate::text::put_number;
 use crate::text::put_with;
+use crate::title::is_shown;
 use curve::inside::ramp;
 use placing::inside::Point;
 use placing::inside::Reach;
@@ -21,8 +23,10 @@ use table::inside::wide;
 use table::spanned;
 ghost use Prim.Native.Nat.{_+_, _≤_, _<_};
 ghost use mathlib.Core.Path.{_≡_};
+ghost use mathlib.Core.Bool.{true};
 ghost use lib.ListN.{length};
 ghost use Rattle.picture.specs.Svg.{ringsOf, piecesOf, Filled};
+ghost use Rattle.picture.specs.Title.{isShown};
 
 // The head's pieces; a piece for each span of drives; one for the last point; one for each ring; and the end.
 const FIRST_SPAN: usize = 11;
@@ -35,8 +39,8 @@ const FIRST_RING: usize = 1297;
 const SPAN: usize = 51;
 
 // The head's texts that are the same in every file.
-const OPEN: [u8; 137] = *b"<svg xmlns=\"http://www.w3.org/2000/svg\" width=\"768\" height=\"768\" \
-    viewBox=\"-8000 -4800 76800 76800\" role=\"img\">\n<title>Tone curve</title>\n";
+const OPEN: [u8; 111] = *b"<svg xmlns=\"http://www.w3.org/2000/svg\" width=\"768\" height=\"768\" \
+    viewBox=\"-8000 -4800 76800 76800\" role=\"img\">\n";
 
 const STYLE: [u8; 276] = *b"<style>\n.page{fill:#fff}\ntext{fill:#1b1b1b;font:1700px sans-serif}\n\
     .grid{stroke:#d4d4d4;stroke-width:80}\n.axis{fill:none;stroke:#1b1b1b;stroke-width:140}\n\
@@ -71,6 +75,26 @@ pub fn pieces(entries: usize) -> usize
     FIRST_RING + rings(entries) + 1
 }
 
+fn put_title(out: &mut [u8; 512], at: usize, title: &[u8]) -> usize
+    requires { ⌜ (at ≤ 200) × (isShown (now title) ≡ true) ⌝ }
+    ensures { λ r. ⌜ (at ≤ r) × (r ≤ at + 300) ⌝ }
+{
+    put_escaped(out, at, title)
+}
+
+// The file's opening tag, and its title: the caller's, or one that fits every curve.
+fn open(title: &[u8], out: &mut [u8; 512]) -> usize
+    ensures { λ r. ⌜ Filled r ⌝ }
+{
+    let a = put(out, 0, &OPEN);
+    if !is_shown(title) {
+        return put(out, a, b"<title>Tone curve</title>\n");
+    }
+    let b = put(out, a, b"<title>");
+    let c = put_title(out, b, title);
+    put(out, c, b"</title>\n")
+}
+
 fn description(entries: usize, out: &mut [u8; 512]) -> usize
     requires { ⌜ entries ≤ 65536 ⌝ }
     ensures { λ r. ⌜ Filled r ⌝ }
@@ -81,6 +105,70 @@ fn description(entries: usize, out: &mut [u8; 512]) -> usize
         a,
         b". In the curve's line x is the drive, y is 65535 less the density.</desc>\n",
     )
+}
+
+// How wide a letter may be drawn, in thirds of its size: most small ones take two, and no other byte of a character
+// than the first counts.
+fn letter_width(b: u8) -> usize
+    ensures { λ r. ⌜ r ≤ 3 ⌝ }
+{
+    match b {
+        b'm' | b'w' => 3,
+        b' ' | b','..=b':' | b'a'..=b'z' => 2,
+        0x80..=0xBF => 0,
+        _ => 3,
+    }
+}
+
+fn title_width(title: &[u8]) -> usize
+    requires { ⌜ isShown (now title) ≡ true ⌝ }
+{
+    let mut n = 0;
+    for i in 0..title.len() {
+        n += letter_width(title[i]);
+    }
+    n
+}
+
+// The size of a title's letters: as large as the scales' where it has room between the word density and the right edge,
+// and else as much smaller as it takes.
+fn letter_size(width: usize) -> usize
+    ensures { λ r. ⌜ r ≤ 1700 ⌝ }
+{
+    match width {
+        0..=100 => 1700,
+        101..=114 => 1500,
+        115..=131 => 1300,
+        132..=155 => 1100,
+        _ => 950,
+    }
+}
+
+// The title where it is drawn.
+fn put_heading(out: &mut [u8; 512], at: usize, title: &[u8]) -> usize
+    requires { ⌜ (at ≤ 100) × (isShown (now title) ≡ true) ⌝ }
+    ensures { λ r. ⌜ Filled r ⌝ }
+{
+    let a = put_with(
+        out,
+        at,
+        b"<text x=\"32768\" y=\"-2000\" text-anchor=\"middle\" style=\"font-size:",
+        letter_size(title_width(title)),
+    );
+    let b = put(out, a, b"px\">");
+    let c = put_title(out, b, title);
+    put(out, c, b"</text>\n")
+}
+
+// The page, and the title on it.
+fn page(title: &[u8], out: &mut [u8; 512]) -> usize
+    ensures { λ r. ⌜ Filled r ⌝ }
+{
+    let at = put(out, 0, &PAGE);
+    if !is_shown(title) {
+        return at;
+    }
+    put_heading(out, at, title)
 }
 
 // A line across the drawing at a drive, and the number below it.
@@ -113,37 +201,37 @@ fn tick(value: u16, out: &mut [u8; 512]) -> usize
 }
 
 // The axes, how many entries the table has, and the start of the curve's line.
-fn curve_open(entries: usize, out: &mut [u8; 512]) -> usize
-    requires { ⌜ entries ≤ 65536 ⌝ }
+fn curve_open(table: &[u16], out: &mut [u8; 512]) -> usize
+    requires { ⌜ length (now table) ≤ 65536 ⌝ }
     ensures { λ r. ⌜ Filled r ⌝ }
 {
-    let at = put(out, 0, &AXES);
-    let a = put_with(
+    let a = put(out, 0, &AXES);
+    let b = put_with(
         out,
-        at,
-        b"<text x=\"65535\" y=\"-2000\" text-anchor=\"end\">entries: ",
-        entries,
+        a,
+        b"<text x=\"65535\" y=\"70700\" text-anchor=\"end\">entries: ",
+        table.len(),
     );
-    put(out, a, b"</text>\n<polyline class=\"curve\" points=\"")
+    put(out, b, b"</text>\n<polyline class=\"curve\" points=\"")
 }
 
 // The head, with five numbers on both scales.
-fn head(entries: usize, k: usize, out: &mut [u8; 512]) -> usize
-    requires { ⌜ entries ≤ 65536 ⌝ }
+fn head(table: &[u16], title: &[u8], k: usize, out: &mut [u8; 512]) -> usize
+    requires { ⌜ length (now table) ≤ 65536 ⌝ }
     ensures { λ r. ⌜ Filled r ⌝ }
 {
     match k {
-        0 => put(out, 0, &OPEN),
-        1 => description(entries, out),
+        0 => open(title, out),
+        1 => description(table.len(), out),
         2 => put(out, 0, &STYLE),
         3 => put(out, 0, &DARK_STYLE),
-        4 => put(out, 0, &PAGE),
+        4 => page(title, out),
         5 => tick(0, out),
         6 => tick(16384, out),
         7 => tick(32768, out),
         8 => tick(49152, out),
         9 => tick(65535, out),
-        _ => curve_open(entries, out),
+        _ => curve_open(table, out),
     }
 }
 
@@ -260,12 +348,12 @@ fn ring(table: &[u16], i: usize, out: &mut [u8; 512]) -> usize
     put(out, b, b"\" r=\"500\"/>\n")
 }
 
-pub fn piece(table: &[u16], k: usize, out: &mut [u8; 512]) -> usize
+pub fn piece(table: &[u16], title: &[u8], k: usize, out: &mut [u8; 512]) -> usize
     requires { ⌜ length (now table) ≤ 65536 ⌝ }
     ensures { λ r. ⌜ Filled r ⌝ }
 {
     if k < FIRST_SPAN {
-        return head(table.len(), k, out);
+        return head(table, title, k, out);
     }
     if k < LAST_POINT {
         return span(table, k - FIRST_SPAN, out);
