@@ -5,6 +5,9 @@
 // to a pixel at the size that the file asks for. Where the curve leaves the densities at a span's two ends, the points
 // of its lowest and of its highest density stand between them, so that no spike is lost. A table of at most 64 entries
 // has a ring at each entry too.
+//
+// Where a span falls, the line is drawn thick and red, since a curve that falls is seldom meant to. So the line is cut
+// into stretches, each from the point where the one before it ends.
 use crate::text::put;
 use crate::text::put_escaped;
 use crate::text::put_number;
@@ -13,6 +16,7 @@ use crate::title::is_shown;
 use curve::inside::ramp;
 use placing::inside::Point;
 use placing::inside::Reach;
+use placing::inside::falls_over;
 use placing::inside::point_at;
 use placing::inside::reach_over;
 use placing::place::across;
@@ -21,10 +25,11 @@ use table::Density;
 use table::Drive;
 use table::inside::wide;
 use table::spanned;
-ghost use Prim.Native.Nat.{_+_, _≤_, _<_};
+ghost use Prim.Native.Nat.{_+_, _*_, _≤_, _<_};
 ghost use mathlib.Core.Path.{_≡_};
 ghost use mathlib.Core.Bool.{true};
 ghost use lib.ListN.{length};
+ghost use Rattle.placing.specs.Falls.{Falls, Tells};
 ghost use Rattle.picture.specs.Svg.{ringsOf, piecesOf, Filled};
 ghost use Rattle.picture.specs.Title.{isShown};
 
@@ -38,18 +43,21 @@ const FIRST_RING: usize = 1297;
 // The drives of a span: 1,285 spans make 65535.
 const SPAN: usize = 51;
 
-// The head's texts that are the same in every file.
+// The head's texts that are the same in every file. A line that falls has round ends, so that a single span of it,
+// which is shorter than a pixel, is seen as a dot.
 const OPEN: [u8; 111] = *b"<svg xmlns=\"http://www.w3.org/2000/svg\" width=\"768\" height=\"768\" \
     viewBox=\"-8000 -4800 76800 76800\" role=\"img\">\n";
 
-const STYLE: [u8; 276] = *b"<style>\n.page{fill:#fff}\ntext{fill:#1b1b1b;font:1700px sans-serif}\n\
+const STYLE: [u8; 383] = *b"<style>\n.page{fill:#fff}\ntext{fill:#1b1b1b;font:1700px sans-serif}\n\
     .grid{stroke:#d4d4d4;stroke-width:80}\n.axis{fill:none;stroke:#1b1b1b;stroke-width:140}\n\
     .curve{fill:none;stroke:#0057b8;stroke-width:260;stroke-linejoin:round}\n\
+    .falls{fill:none;stroke:#c00;stroke-width:520;stroke-linejoin:round;stroke-linecap:round}\n.note{fill:#c00}\n\
     .entry{fill:#fff;stroke:#0057b8;stroke-width:180}\n";
 
-const DARK_STYLE: [u8; 189] =
+const DARK_STYLE: [u8; 232] =
     *b"@media (prefers-color-scheme:dark){\n.page{fill:#14161a}\ntext{fill:#ececec}\n\
     .grid{stroke:#3a3f47}\n.axis{stroke:#ececec}\n.curve{stroke:#6cb6ff}\n\
+    .falls{stroke:#ff7b72}\n.note{fill:#ff7b72}\n\
     .entry{fill:#14161a;stroke:#6cb6ff}\n}\n</style>\n";
 
 // A page of its own, since a viewer's may be of any colour.
@@ -59,6 +67,9 @@ const PAGE: [u8; 70] =
 const AXES: [u8; 160] = *b"<path class=\"axis\" d=\"M0,0V65535H65535\"/>\n\
     <text x=\"32768\" y=\"70700\" text-anchor=\"middle\">drive</text>\n\
     <text x=\"0\" y=\"-2000\" text-anchor=\"middle\">density</text>\n";
+
+const LEGEND: [u8; 83] =
+    *b"<text class=\"note\" x=\"0\" y=\"70700\" text-anchor=\"start\">thick: here it falls</text>\n";
 
 fn rings(entries: usize) -> usize
     ensures { λ r. ⌜ (r ≡ ringsOf entries) × (r ≤ 64) × (r ≤ entries) ⌝ }
@@ -103,7 +114,8 @@ fn description(entries: usize, out: &mut [u8; 512]) -> usize
     put(
         out,
         a,
-        b". In the curve's line x is the drive, y is 65535 less the density.</desc>\n",
+        b". In the curve's line x is the drive, y is 65535 less the density. \
+        Where the line is thick, the density falls as the drive rises.</desc>\n",
     )
 }
 
@@ -200,7 +212,27 @@ fn tick(value: u16, out: &mut [u8; 512]) -> usize
     put_density_tick(out, at, Density(value))
 }
 
-// The axes, how many entries the table has, and the start of the curve's line.
+// Whether a span falls.
+fn span_falls(table: &[u16], k: usize) -> bool
+    requires { ⌜ k < 1285 ⌝ }
+    ensures { λ r. ⌜ Tells r (Falls (now (table .entry)) (k * 51) (k * 51 + 51)) ⌝ }
+{
+    let from = k * SPAN;
+    falls_over(table, from, from + SPAN)
+}
+
+// The start of a line through spans that fall, or through spans that do not.
+fn put_line(out: &mut [u8; 512], at: usize, falls: bool) -> usize
+    requires { ⌜ at ≤ 300 ⌝ }
+    ensures { λ r. ⌜ r ≡ at + 32 ⌝ }
+{
+    if falls {
+        return put(out, at, b"<polyline class=\"falls\" points=\"");
+    }
+    put(out, at, b"<polyline class=\"curve\" points=\"")
+}
+
+// The axes, how many entries the table has, and the start of the curve's first line.
 fn curve_open(table: &[u16], out: &mut [u8; 512]) -> usize
     requires { ⌜ length (now table) ≤ 65536 ⌝ }
     ensures { λ r. ⌜ Filled r ⌝ }
@@ -212,7 +244,8 @@ fn curve_open(table: &[u16], out: &mut [u8; 512]) -> usize
         b"<text x=\"65535\" y=\"70700\" text-anchor=\"end\">entries: ",
         table.len(),
     );
-    put(out, b, b"</text>\n<polyline class=\"curve\" points=\"")
+    let c = put(out, b, b"</text>\n");
+    put_line(out, c, span_falls(table, 0))
 }
 
 // The head, with five numbers on both scales.
@@ -281,7 +314,7 @@ fn put_two(
     first: Density,
     last: Density,
 ) -> usize
-    requires { ⌜ (1 ≤ at) × (at ≤ 12) ⌝ }
+    requires { ⌜ (1 ≤ at) × (at ≤ 60) ⌝ }
     ensures { λ r. ⌜ Filled r ⌝ }
 {
     let a = put_outside(out, at, x, first, last);
@@ -290,7 +323,7 @@ fn put_two(
 
 // The lowest and the highest point of a span, the earlier one first.
 fn put_between(out: &mut [u8; 512], at: usize, r: Reach, first: Density, last: Density) -> usize
-    requires { ⌜ (1 ≤ at) × (at ≤ 12) ⌝ }
+    requires { ⌜ (1 ≤ at) × (at ≤ 60) ⌝ }
     ensures { λ r. ⌜ Filled r ⌝ }
 {
     let valley = r.valley;
@@ -299,6 +332,33 @@ fn put_between(out: &mut [u8; 512], at: usize, r: Reach, first: Density, last: D
         return put_two(out, at, valley, peak, first, last);
     }
     put_two(out, at, peak, valley, first, last)
+}
+
+// Whether span k is drawn otherwise than the one before it. The first span has its line from the head.
+fn turns(table: &[u16], k: usize, falls: bool) -> bool
+    requires { ⌜ k < 1285 ⌝ }
+{
+    if k == 0 {
+        return false;
+    }
+    if span_falls(table, k - 1) {
+        return !falls;
+    }
+    falls
+}
+
+// Where span k is drawn otherwise, the line ends at the span's first point, and another begins there.
+fn put_turn(out: &mut [u8; 512], at: usize, table: &[u16], k: usize, first: Point) -> usize
+    requires { ⌜ (at ≤ 12) × (k < 1285) ⌝ }
+    ensures { λ r. ⌜ (at ≤ r) × (r ≤ at + 48) ⌝ }
+{
+    let falls = span_falls(table, k);
+    if !turns(table, k, falls) {
+        return at;
+    }
+    let a = put(out, at, b"\"/>\n");
+    let b = put_line(out, a, falls);
+    put_point(out, b, b'\n', first)
 }
 
 // A span's first point, and those between its ends.
@@ -311,9 +371,10 @@ fn span(table: &[u16], k: usize, out: &mut [u8; 512]) -> usize
     let first = point_at(table, from);
     let last = point_at(table, to);
     let at = put_point(out, 0, before_span(k), first);
+    let then = put_turn(out, at, table, k, first);
     put_between(
         out,
-        at,
+        then,
         reach_over(table, from, to),
         first.density,
         last.density,
@@ -348,6 +409,17 @@ fn ring(table: &[u16], i: usize, out: &mut [u8; 512]) -> usize
     put(out, b, b"\" r=\"500\"/>\n")
 }
 
+// The end, and what a thick line says where there is one.
+fn close(table: &[u16], out: &mut [u8; 512]) -> usize
+    ensures { λ r. ⌜ Filled r ⌝ }
+{
+    if !falls_over(table, 0, 65535) {
+        return put(out, 0, b"</svg>\n");
+    }
+    let a = put(out, 0, &LEGEND);
+    put(out, a, b"</svg>\n")
+}
+
 pub fn piece(table: &[u16], title: &[u8], k: usize, out: &mut [u8; 512]) -> usize
     requires { ⌜ length (now table) ≤ 65536 ⌝ }
     ensures { λ r. ⌜ Filled r ⌝ }
@@ -364,5 +436,5 @@ pub fn piece(table: &[u16], title: &[u8], k: usize, out: &mut [u8; 512]) -> usiz
     if k - FIRST_RING < rings(table.len()) {
         return ring(table, k - FIRST_RING, out);
     }
-    put(out, 0, b"</svg>\n")
+    close(table, out)
 }
