@@ -1,5 +1,9 @@
 // The bench program: the whole library, asked one request a line and answering each with a line. It reads standard
-// input to its end. docs/GROAT.md is its language.
+// input to its end. docs/GROAT.md is its language, and the script ./groat starts it.
+mod refusals;
+mod starting;
+mod terminal;
+
 use groat_answers::after_rows;
 use groat_answers::before_rows;
 use groat_curves::PLACES;
@@ -10,14 +14,20 @@ use groat_lines::Streams;
 use groat_lines::Tag;
 use groat_lines::advance;
 use groat_lines::ends_line;
+use groat_lines::is_fine;
 use groat_lines::next_line;
-use groat_lines::opened;
 use groat_lines::pass_line;
 use groat_lines::put_byte;
 use groat_lines::put_problem;
 use groat_lines::read_name;
 use groat_lines::settled;
 use groat_lines::skip_spaces;
+use starting::report;
+use starting::started;
+use terminal::closed;
+use terminal::put_hint;
+use terminal::put_opening;
+use terminal::put_prompt;
 
 const COMMENT: u16 = b'#' as u16;
 
@@ -29,15 +39,22 @@ fn is_silent(now: u16) -> bool {
     ends_line(now)
 }
 
+// Ends an answer. Nothing stands on the line of a request that ends the program.
 fn put_end(s: State, io: &mut Streams) -> State {
+    if s.over {
+        return s;
+    }
     let told = put_problem(s, io);
-    put_byte(told, io, b'\n')
+    put_hint(put_byte(told, io, b'\n'), io)
 }
 
 // At the next line. What was answered is written out before the rest of this line or the next one is waited for.
 fn turn(s: State, io: &mut Streams) -> State {
+    if s.over {
+        return s;
+    }
     let end = pass_line(settled(s, io), io);
-    next_line(settled(end, io), io)
+    next_line(settled(put_prompt(end, io), io), io)
 }
 
 // Answers the request that the line names, past the rows of all that there are.
@@ -58,10 +75,14 @@ fn answer(
     if here.met {
         return here;
     }
+    here = terminal::answer(here, io);
+    if here.met {
+        return here;
+    }
     after_rows(here, io)
 }
 
-// One line, up to the first byte of the next.
+// One line, up to the first byte of the next. A line that a terminal has cut is wrong from its first byte on.
 fn line(
     s: State,
     io: &mut Streams,
@@ -72,7 +93,7 @@ fn line(
     tag: &mut Tag,
 ) -> State {
     let start = skip_spaces(s, io);
-    if is_silent(start.now) {
+    if is_silent(start.now) && is_fine(start) {
         return turn(start, io);
     }
     let named = read_name(start, io);
@@ -89,9 +110,10 @@ fn main() {
     let mut log = [0u64; PLACES];
     let mut floats = [0.0f32; 65537];
     let mut tag = [0u8; 131200];
-    let mut s = advance(opened(), &mut io);
+    let opening = settled(put_opening(started(), &mut io), &io);
+    let mut s = advance(opening, &mut io);
     let mut turns = u64::MAX;
-    while turns > 0 && s.now != INPUT_END && !s.broken {
+    while turns > 0 && s.now != INPUT_END && !s.broken && !s.over {
         s = line(
             s,
             &mut io,
@@ -103,4 +125,5 @@ fn main() {
         );
         turns -= 1;
     }
+    report(closed(s, &mut io));
 }

@@ -5,6 +5,7 @@ mod rows;
 
 use groat_lines::State;
 use groat_lines::Streams;
+use groat_lines::faulted;
 use groat_lines::put;
 use groat_lines::put_byte;
 use groat_lines::put_decimal;
@@ -122,7 +123,7 @@ pub fn put_ok(s: State, io: &mut Streams, n: usize) -> State {
 }
 
 pub fn put_refused_number(s: State, io: &mut Streams, why: u32) -> State {
-    let here = put(s, io, b"refused ");
+    let here = put(faulted(s), io, b"refused ");
     put_decimal(here, io, wide(why))
 }
 
@@ -132,7 +133,7 @@ pub fn put_refused(s: State, io: &mut Streams, why: Refusal) -> State {
 
 // An item of a list that is refused.
 pub fn put_refused_item(s: State, io: &mut Streams, why: Refusal) -> State {
-    let here = put_byte(s, io, b'!');
+    let here = put_byte(faulted(s), io, b'!');
     put_decimal(here, io, wide(number(why)))
 }
 

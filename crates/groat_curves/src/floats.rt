@@ -30,11 +30,22 @@ pub fn answer(
     table: &[u16],
     floats: &mut [f32],
 ) -> State {
-    let mut here = at_row(s, io, b"floats LIST: keep the list of f32");
+    let mut here = at_row(
+        s,
+        io,
+        b"floats LIST: keep the list of f32",
+        b"words: LIST of f32, each as 8 hexadecimal digits\nanswer: ok N, N its length",
+    );
     if here.met {
         return hold_floats(here, io, codes, floats);
     }
-    here = at_row(here, io, b"flookup LIST: the kept floats at each f32");
+    here = at_row(
+        here,
+        io,
+        b"flookup LIST: the kept floats at each f32",
+        b"words: LIST of f32, each as 8 hexadecimal digits\n\
+            answer: a list of f32, each as 8 digits or nan\nitems refused: 1",
+    );
     if here.met {
         return ask(
             Question::LookupF32,
@@ -46,11 +57,21 @@ pub fn answer(
             floats,
         );
     }
-    here = at_row(here, io, b"passthrough N: the straight line of N floats");
+    here = at_row(
+        here,
+        io,
+        b"passthrough N: the straight line of N floats",
+        b"words: N below 2^64\nanswer: a list of f32, each as 8 digits\nrefused: 12",
+    );
     if here.met {
         return passthrough(here, io);
     }
-    here = at_row(here, io, b"fixed8 LIST: the f32 of each 8.8 number");
+    here = at_row(
+        here,
+        io,
+        b"fixed8 LIST: the f32 of each 8.8 number",
+        b"words: LIST of 0 to 65535\nanswer: a list of f32, each as 8 digits",
+    );
     if here.met {
         return ask(
             Question::Fixed8,
@@ -62,11 +83,21 @@ pub fn answer(
             floats,
         );
     }
-    here = at_row(here, io, b"raw LIST: the f32 of each raw 16.16 number");
+    here = at_row(
+        here,
+        io,
+        b"raw LIST: the f32 of each raw 16.16 number",
+        b"words: LIST of -2147483648 to 2147483647\nanswer: a list of f32, each as 8 digits",
+    );
     if here.met {
         return ask(Question::Raw16, Place::Raw, here, io, codes, table, floats);
     }
-    here = at_row(here, io, b"narrow LIST: the f32 nearest to each f64");
+    here = at_row(
+        here,
+        io,
+        b"narrow LIST: the f32 nearest to each f64",
+        b"words: LIST of f64, each as 16 hexadecimal digits\nanswer: a list of f32, each as 8 digits or nan",
+    );
     if here.met {
         return ask(
             Question::Narrow,
@@ -82,6 +113,7 @@ pub fn answer(
         here,
         io,
         b"param LIST: the parametric curve of 1, 3, 4, 5 or 7 f32",
+        b"words: LIST of f32, each as 8 hexadecimal digits\nanswer: g,a,b,c,d,e,f\nrefused: 7",
     );
     if here.met {
         return param(here, io, codes);
@@ -90,6 +122,7 @@ pub fn answer(
         here,
         io,
         b"compare LIST LIST: whether two lists of f32 are close",
+        b"words: each LIST of f32, each as 8 hexadecimal digits\nanswer: yes or no",
     );
     if here.met {
         return compare(here, io, codes);

@@ -41,11 +41,17 @@ pub fn answer(
         s,
         io,
         b"logstart: the straight curve is the table, with an empty log",
+        b"answer: ok\nrefused: 1",
     );
     if here.met {
         return start(here, io, table, log);
     }
-    here = at_row(here, io, b"logaccept: accept the table, with an empty log");
+    here = at_row(
+        here,
+        io,
+        b"logaccept: accept the table, with an empty log",
+        b"answer: ok\nrefused: 1, 2",
+    );
     if here.met {
         return accept(here, io, entries(table, here.table), log);
     }
@@ -53,6 +59,7 @@ pub fn answer(
         here,
         io,
         b"lognudge I V: set entry I of the table to V, and log it",
+        b"words: I below 2^64, counted from 0; V 0 to 65535\nanswer: ok\nrefused: 1, 17, 3, 2, 4, 15",
     );
     if here.met {
         return nudge(here, io, table, log);
@@ -61,6 +68,7 @@ pub fn answer(
         here,
         io,
         b"takeback: undo the last logged nudge that stands",
+        b"answer: ok\nrefused: 1, 2, 17, 16",
     );
     if here.met {
         return undo(here, io, table, log);
@@ -69,6 +77,7 @@ pub fn answer(
         here,
         io,
         b"log: the logged nudges that stand, each as I:OLD:NEW",
+        b"answer: the records as a list",
     );
     if here.met {
         return put_records(here, io, log);
@@ -77,6 +86,7 @@ pub fn answer(
         here,
         io,
         b"setlog COUNT RECORDS: keep the count and the records as the log",
+        b"words: COUNT below 2^64; RECORDS with commas, each I:OLD:NEW of 0 to 65535, or - for none\nanswer: ok",
     );
     if here.met {
         return hold_log(here, io, codes, log);

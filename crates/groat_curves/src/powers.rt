@@ -28,6 +28,7 @@ pub fn answer(
         s,
         io,
         b"power P LIST: the gamma curve of exponent P/65536 at each drive",
+        b"words: P below 2^64; LIST of 0 to 65535\nanswer: a list\nitems refused: 18",
     );
     if here.met {
         return ask_power(here, io, codes, table, floats);
@@ -36,6 +37,7 @@ pub fn answer(
         here,
         io,
         b"powertable P N: the gamma curve of exponent P/65536, with N entries, is the table",
+        b"words: P and N below 2^64\nanswer: ok N\nrefused: 1, 18",
     );
     if here.met {
         return fill_power(here, io, table);
@@ -44,6 +46,7 @@ pub fn answer(
         here,
         io,
         b"tagpower K LIST: the gamma curve of a gamma tag's entry K at each drive",
+        b"words: K 0 to 65535; LIST of 0 to 65535\nanswer: a list\nitems refused: 18",
     );
     if here.met {
         return ask_tag_power(here, io, codes, table, floats);
@@ -52,6 +55,7 @@ pub fn answer(
         here,
         io,
         b"tagtable K N: the gamma curve of a gamma tag's entry K, with N entries, is the table",
+        b"words: K 0 to 65535; N below 2^64\nanswer: ok N\nrefused: 1, 18",
     );
     if here.met {
         return fill_tag_power(here, io, table);

@@ -86,7 +86,12 @@ pub fn answer(
     table: &[u16],
     floats: &[f32],
 ) -> State {
-    let mut here = at_row(s, io, b"lookup LIST: the density at each drive");
+    let mut here = at_row(
+        s,
+        io,
+        b"lookup LIST: the density at each drive",
+        b"words: LIST of 0 to 65535\nanswer: a list\nitems refused: 1",
+    );
     if here.met {
         return ask(
             Question::Lookup,
@@ -102,6 +107,7 @@ pub fn answer(
         here,
         io,
         b"least LIST: the least drive that reaches each density",
+        b"words: LIST of 0 to 65535\nanswer: a list\nitems refused: 1, 2, 5",
     );
     if here.met {
         return ask(
@@ -118,6 +124,7 @@ pub fn answer(
         here,
         io,
         b"row LIST: the densities at the drives, by one call",
+        b"words: LIST of 0 to 65535\nanswer: a list\nrefused: 1",
     );
     if here.met {
         return look_up_row(here, io, codes, entries(table, here.table));
@@ -126,6 +133,7 @@ pub fn answer(
         here,
         io,
         b"leastrow LIST: the least drives of the densities, by one call; 65536 for none",
+        b"words: LIST of 0 to 65535\nanswer: a list\nrefused: 1, 2",
     );
     if here.met {
         return least_row(here, io, codes, entries(table, here.table));
@@ -134,6 +142,7 @@ pub fn answer(
         here,
         io,
         b"inverse LIST: the Rust's inverse of each density",
+        b"words: LIST of 0 to 65535\nanswer: a list\nitems refused: 1",
     );
     if here.met {
         return ask(
@@ -146,7 +155,12 @@ pub fn answer(
             floats,
         );
     }
-    here = at_row(here, io, b"invert M: the inverted table of M entries");
+    here = at_row(
+        here,
+        io,
+        b"invert M: the inverted table of M entries",
+        b"words: M below 2^64\nanswer: a list\nrefused: 1, 12",
+    );
     if here.met {
         return invert(here, io, entries(table, here.table));
     }
@@ -154,6 +168,7 @@ pub fn answer(
         here,
         io,
         b"gamma N DEPTH LIST: the integer gamma lookup at each input",
+        b"words: N, DEPTH and each of LIST below 2^64\nanswer: a list\nitems refused: 1, 12, 3",
     );
     if here.met {
         return ask_gamma(here, io, codes, table, floats);
@@ -162,6 +177,7 @@ pub fn answer(
         here,
         io,
         b"house LIST: the house curve's entry at each index",
+        b"words: LIST of numbers below 2^64\nanswer: a list\nitems refused: 3",
     );
     if here.met {
         return ask(
@@ -174,7 +190,13 @@ pub fn answer(
             floats,
         );
     }
-    here = at_row(here, io, b"dlookup LIST: the table at each f64 from 0 to 1");
+    here = at_row(
+        here,
+        io,
+        b"dlookup LIST: the table at each f64 from 0 to 1",
+        b"words: LIST of f64, each as 16 hexadecimal digits\n\
+            answer: a list of f32, each as 8 digits or nan\nitems refused: 1, 13",
+    );
     if here.met {
         return ask(
             Question::LookupF64,

@@ -34,11 +34,16 @@ use table::Density;
 use table::Done;
 
 pub fn answer(s: State, io: &mut Streams, codes: &mut Codes, table: &mut [u16]) -> State {
-    let mut here = at_row(s, io, b"table LIST: keep the list as the table");
+    let mut here = at_row(
+        s,
+        io,
+        b"table LIST: keep the list as the table",
+        b"words: LIST of 0 to 65535\nanswer: ok N, N its length",
+    );
     if here.met {
         return hold_table(here, io, codes, table);
     }
-    here = at_row(here, io, b"show: the table");
+    here = at_row(here, io, b"show: the table", b"answer: the table as a list");
     if here.met {
         return put_shorts(here, io, entries(table, here.table));
     }
@@ -46,19 +51,35 @@ pub fn answer(s: State, io: &mut Streams, codes: &mut Codes, table: &mut [u16]) 
         here,
         io,
         b"start N: the straight curve of N entries is the table",
+        b"words: N below 2^64\nanswer: ok N\nrefused: 1",
     );
     if here.met {
         return start(here, io, table);
     }
-    here = at_row(here, io, b"accept: whether the table may be worked on");
+    here = at_row(
+        here,
+        io,
+        b"accept: whether the table may be worked on",
+        b"answer: ok\nrefused: 1, 2",
+    );
     if here.met {
         return accept(here, io, entries(table, here.table));
     }
-    here = at_row(here, io, b"nudge I V: set entry I of the table to V");
+    here = at_row(
+        here,
+        io,
+        b"nudge I V: set entry I of the table to V",
+        b"words: I below 2^64, counted from 0; V 0 to 65535\nanswer: ok\nrefused: 1, 3, 2, 4",
+    );
     if here.met {
         return nudge(here, io, table);
     }
-    here = at_row(here, io, b"usehouse: the house curve is the table");
+    here = at_row(
+        here,
+        io,
+        b"usehouse: the house curve is the table",
+        b"answer: ok 1024",
+    );
     if here.met {
         return use_house(here, io, table);
     }
@@ -66,6 +87,7 @@ pub fn answer(s: State, io: &mut Streams, codes: &mut Codes, table: &mut [u16]) 
         here,
         io,
         b"bake: the table's answers at every position are the table",
+        b"answer: ok 65536\nrefused: 1",
     );
     if here.met {
         return bake(here, io, table);
@@ -74,11 +96,17 @@ pub fn answer(s: State, io: &mut Streams, codes: &mut Codes, table: &mut [u16]) 
         here,
         io,
         b"monotonic rising, monotonic falling: whether it goes that way",
+        b"answer: yes V or no V, V the steps against it\nrefused: 1",
     );
     if here.met {
         return monotonic(here, io, entries(table, here.table));
     }
-    here = at_row(here, io, b"degenerated: whether it stands still at an end");
+    here = at_row(
+        here,
+        io,
+        b"degenerated: whether it stands still at an end",
+        b"answer: yes or no\nrefused: 1",
+    );
     if here.met {
         return degenerated(here, io, entries(table, here.table));
     }

@@ -26,6 +26,12 @@ pub const NOT_SEVEN_NUMBERS: u8 = 9;
 
 pub const NO_SUCH_DIRECTION: u8 = 10;
 
+pub const NOT_A_REGULAR_FILE: u8 = 11;
+
+pub const BAD_TITLE: u8 = 12;
+
+pub const LINE_TOO_LONG: u8 = 13;
+
 // The line with something wrong, unless something was wrong before.
 pub fn wrong(s: State, problem: u8) -> State {
     if s.problem != NO_PROBLEM {
@@ -53,13 +59,44 @@ fn put_text(s: State, io: &mut Streams) -> State {
         CANNOT_WRITE => put(s, io, b"error cannot write"),
         NOT_SEVEN_NUMBERS => put(s, io, b"error not seven numbers"),
         NO_SUCH_DIRECTION => put(s, io, b"error no such direction"),
+        NOT_A_REGULAR_FILE => put(s, io, b"error not a regular file"),
+        BAD_TITLE => put(s, io, b"error bad title"),
+        LINE_TOO_LONG => put(
+            s,
+            io,
+            b"error line too long for a terminal: put it in a file, and start with ./groat FILE",
+        ),
         _ => s,
     }
 }
 
-// Says what is wrong with the line, where anything is, and leaves the next line with nothing wrong.
+// With a request, or an item of one, that was refused.
+pub fn faulted(s: State) -> State {
+    let mut after = s;
+    after.faulty = true;
+    after
+}
+
+// At the end of a line that was refused in any part or could not be read: it is counted.
+fn with_fault(s: State) -> State {
+    let mut after = s;
+    after.faulty = false;
+    after.faults = std::num::wrapping_add_u64(s.faults, 1);
+    after
+}
+
+// Says what is wrong with the line, where anything is.
 pub fn put_problem(s: State, io: &mut Streams) -> State {
-    let mut after = put_text(s, io);
+    let after = put_text(s, io);
+    if s.faulty || !is_fine(s) {
+        return with_fault(after);
+    }
+    after
+}
+
+// Before a line, with which nothing is wrong yet.
+pub fn fresh(s: State) -> State {
+    let mut after = s;
     after.problem = NO_PROBLEM;
     after
 }

@@ -2,6 +2,8 @@
 // half of a buffer, which is filled again whenever it is used up. Output is gathered in the other half, and written
 // out when that is full and wherever `settled` is called: before the program may have to wait for input, so that
 // nobody waits for an answer. Each half uses 65,535 bytes, so that a count of them is any 16-bit number.
+use crate::problems::LINE_TOO_LONG;
+use crate::problems::wrong;
 ghost use mathlib.Core.Path.{_≡_};
 ghost use Prim.Native.Nat.{_≤_, _<_};
 
@@ -17,6 +19,10 @@ pub const INPUT_END: u16 = 257;
 
 const CARRIAGE_RETURN: u16 = b'\r' as u16;
 
+// A terminal passes a line on when its end is typed, and drops what it has no room for: so many bytes of a line come
+// through and no more, so one that has as many may have been cut.
+const TERMINAL_ROOM: usize = 4095;
+
 // What goes from call to call by value. The buffers themselves are lent beside it.
 pub struct State {
     // the byte of the line that is looked at, or one of the two ends
@@ -24,12 +30,23 @@ pub struct State {
     // the name that was read last, as a number (words.rt), and whether the row that it met last is to answer the line
     pub name: u64,
     pub met: bool,
+    // what the line asks help for: 0 for nothing, or a number of groat_answers' rows
+    pub help: u8,
     // what was read last: a number, or how many items or bytes
     pub got: u64,
     // what is wrong with the line: 0 for nothing, or a number of problems.rt
     pub problem: u8,
     // whether a write to standard output has failed: nothing more is written then
     pub broken: bool,
+    // whether lines come from a terminal, which cuts a long one
+    pub typed: bool,
+    // whether a person reads the answers at a terminal, and is to be prompted
+    pub prompts: bool,
+    // whether the person has asked to end
+    pub over: bool,
+    // whether this line has been refused in any part or could not be read, and of how many lines before it that holds
+    pub faulty: bool,
+    pub faults: u64,
     // how many places of their buffers the kept table, floats and tag have
     pub table: usize,
     pub floats: usize,
@@ -49,9 +66,15 @@ pub fn opened() -> State {
         now: LINE_END,
         name: 0,
         met: false,
+        help: 0,
         got: 0,
         problem: 0,
         broken: false,
+        typed: false,
+        prompts: false,
+        over: false,
+        faulty: false,
+        faults: 0,
         table: 0,
         floats: 0,
         tag: 0,
@@ -72,14 +95,37 @@ fn widened(byte: u8) -> u16 {
     byte as u16
 }
 
-// Reads into the first 65,535 places.
+// Reads into the first 65,535 places. Input that cannot be read counts as ended, and standard error says why.
 fn read_into(all: &mut [u8]) -> u16 {
     if all.len() < 65535 {
         return 0;
     }
     let part = &mut all[0..65535];
     let got = libc::read(libc::STDIN_FILENO, part);
+    if got < 0 {
+        os::fail(b"groat: standard input");
+    }
     io::count(got, part) as u16
+}
+
+// Whether a line that a terminal brought may have been cut. It comes by one read, with its line end after it, unless a
+// person passes its beginning on with Ctrl-D.
+fn is_cut(io: &Streams, held: usize) -> bool {
+    if held == TERMINAL_ROOM {
+        return io[TERMINAL_ROOM - 1] != b'\n';
+    }
+    held > TERMINAL_ROOM
+}
+
+// Holding what a read brought.
+fn holding(s: State, io: &Streams, held: u16) -> State {
+    let mut after = s;
+    after.at = 0;
+    after.held = held;
+    if s.typed && is_cut(io, wide(held)) {
+        return wrong(after, LINE_TOO_LONG);
+    }
+    after
 }
 
 // With a byte at hand, unless the input has ended.
@@ -87,10 +133,8 @@ fn ready(s: State, io: &mut Streams) -> State {
     if s.at < s.held {
         return s;
     }
-    let mut after = s;
-    after.at = 0;
-    after.held = read_into(io);
-    after
+    let held = read_into(io);
+    holding(s, io, held)
 }
 
 // Whether the next byte can be looked at without waiting for input.
@@ -162,7 +206,7 @@ fn emptied(s: State, broken: bool) -> State
 }
 
 // Writes out what waits.
-fn flush(s: State, io: &Streams) -> State
+pub fn flush(s: State, io: &Streams) -> State
     ensures { λ r. ⌜ r .waiting ≡ 0 ⌝ }
 {
     if s.broken {

@@ -1,6 +1,7 @@
 // Words and where they end, the end of a line, names and paths.
 use crate::problems::TOO_FEW_WORDS;
 use crate::problems::TOO_MANY_WORDS;
+use crate::problems::fresh;
 use crate::problems::wrong;
 use crate::streams::LINE_END;
 use crate::streams::State;
@@ -8,7 +9,7 @@ use crate::streams::Streams;
 use crate::streams::advance;
 ghost use Prim.Native.Nat.{_≤_};
 
-// A path that is being read. One that fills its buffer may go on, so no file is opened under it (groat_tags).
+// A path or a title that is being read. One that fills its buffer may go on: no file is opened under it (groat_tags).
 pub type Path = [u8; 4096];
 
 const SPACE: u16 = b' ' as u16;
@@ -72,7 +73,7 @@ pub fn pass_line(s: State, io: &mut Streams) -> State {
 // At the first byte of the next line, or at the end of the input.
 pub fn next_line(s: State, io: &mut Streams) -> State {
     if s.now == LINE_END {
-        return advance(s, io);
+        return advance(fresh(s), io);
     }
     s
 }
@@ -152,16 +153,39 @@ fn keep_byte(path: &mut Path, n: u64, byte: u8) -> u64 {
     n
 }
 
-// The last word of the line as a path, which is put into a lent buffer.
-pub fn last_path(s: State, io: &mut Streams, path: &mut Path) -> State {
-    let mut here = next_word(s, io);
-    let mut n: u64 = 0;
+// The word that begins here, put into a lent buffer after n bytes.
+fn copy_word(s: State, io: &mut Streams, text: &mut Path, before: u64) -> State {
+    let mut here = s;
+    let mut n = before;
     let mut turns = u64::MAX;
     while turns > 0 && !ends_word(here.now) {
-        n = keep_byte(path, n, byte_of(here.now));
+        n = keep_byte(text, n, byte_of(here.now));
         here = advance(here, io);
         turns -= 1;
     }
     here.got = n;
-    no_more_words(here, io)
+    here
+}
+
+// The next word of the line as a path, which is put into a lent buffer.
+pub fn read_path(s: State, io: &mut Streams, path: &mut Path) -> State {
+    copy_word(next_word(s, io), io, path, 0)
+}
+
+// The last word of the line as a path.
+pub fn last_path(s: State, io: &mut Streams, path: &mut Path) -> State {
+    no_more_words(read_path(s, io, path), io)
+}
+
+// All further words of the line, with a blank between each two, put into a lent buffer. There may be none.
+pub fn last_words(s: State, io: &mut Streams, text: &mut Path) -> State {
+    let first = copy_word(skip_spaces(s, io), io, text, 0);
+    let mut here = skip_spaces(first, io);
+    let mut turns = u64::MAX;
+    while turns > 0 && !ends_line(here.now) {
+        let n = keep_byte(text, here.got, b' ');
+        here = skip_spaces(copy_word(here, io, text, n), io);
+        turns -= 1;
+    }
+    here
 }

@@ -1,12 +1,14 @@
-// The tag read from a file and written to one. A file is written beside its place and renamed, so that no half file is
-// left. A path of 4,096 bytes may be the beginning of a longer one, cut off by its buffer: no file is begun under it
-// here, and the kit's `open_read` opens none.
+// The tag read from a file and written to one. A file is written as a draft beside its place and renamed, so that what
+// stands there is always whole: the old file or the new one. A path of 4,096 bytes may be the beginning of a longer
+// one, cut off by its buffer: no file is begun under it here, and the kit's `open_read` opens none.
 use crate::tags::hold;
+use file_status::Status;
+use file_status::status_at;
 use groat_answers::bytes;
-use groat_answers::bytes_mut;
 use groat_answers::put_ok;
 use groat_lines::CANNOT_OPEN;
 use groat_lines::CANNOT_WRITE;
+use groat_lines::NOT_A_REGULAR_FILE;
 use groat_lines::Path;
 use groat_lines::State;
 use groat_lines::Streams;
@@ -22,12 +24,18 @@ enum Loaded {
     Failed,
 }
 
-// A file that is being written: its descriptor, below 0 where it could not be made, and the length of its name for the
-// time being.
+// A file that is being written: its descriptor, the length of its name for the time being, and what stands at its
+// place. Below 0 the descriptor says why there is none.
 pub struct Draft {
     pub fd: i32,
     name_length: usize,
+    before: Status,
 }
+
+// In place of a descriptor: no file can be begun in the directory, or what stands at the place is to be left alone.
+const NO_FILE: i32 = -1;
+
+const NOT_REPLACED: i32 = -2;
 
 // What a read of one byte more says of a file of which n bytes came.
 fn judged(n: usize, more: isize) -> Loaded {
@@ -117,31 +125,87 @@ fn write_at(name: &mut Path, at: usize, text: &[u8]) {
     }
 }
 
-fn make(name: &mut [u8], n: usize) -> i32 {
-    os::create_temp(bytes_mut(name, n))
+// Whether a file may take the place of what stands there: nothing, or a regular file. A link is neither, whatever it
+// leads to: a rename would replace the link.
+fn gives_way(before: Status) -> bool {
+    before.mode == 0 || before.mode & libc::S_IFMT == libc::S_IFREG
 }
 
-// Makes a file in the directory of a path, under a name of its own that is put into a lent buffer.
-pub fn begin(path: &[u8], name: &mut Path) -> Draft {
-    if path.len() >= 4096 {
-        return Draft {
-            fd: -1,
-            name_length: 0,
-        };
-    }
-    let before = directory(path);
+fn wide(byte: u8) -> u64 {
+    byte as u64
+}
+
+// Four random bytes as a number. Where none are to be had it is 0: two drafts of one name are no danger, since a file
+// is only made where its name is free.
+fn random() -> u64 {
+    let mut four = [0u8; 4];
+    libc::getentropy(&mut four);
+    (wide(four[0]) << 24) | (wide(four[1]) << 16) | (wide(four[2]) << 8) | wide(four[3])
+}
+
+// Puts a draft's name after its directory into a lent buffer, `groat-` and eight hexadecimal digits, and gives where it
+// ends.
+fn write_name(name: &mut Path, before: usize) -> usize {
+    let mut digits = [0u8; 16];
+    let n = io::hex(random(), 8, &mut digits);
+    write_at(name, before, b"groat-");
+    write_at(name, std::num::wrapping_add_usize(before, 6), &digits[..n]);
+    std::num::wrapping_add_usize(before, 14)
+}
+
+// Makes a file in the directory of a path, under a name of its own that is put into a lent buffer. It is made as any
+// new file is, so that its mode follows the umask.
+fn make(path: &[u8], name: &mut Path, before: Status) -> Draft {
     write_at(name, 0, path);
-    write_at(name, before, b"groat-XXXXXX");
-    let length = std::num::wrapping_add_usize(before, 12);
+    let length = write_name(name, directory(path));
     Draft {
-        fd: make(name, length),
+        fd: os::create(bytes(name, length)),
         name_length: length,
+        before,
     }
 }
 
-// Whether the file is safe on its disk, for everyone to read.
-fn synced(fd: i32) -> bool {
-    if libc::fchmod(fd, 0o644) < 0 {
+fn no_draft(why: i32, before: Status) -> Draft {
+    Draft {
+        fd: why,
+        name_length: 0,
+        before,
+    }
+}
+
+// Begins a file that is to stand at a path.
+pub fn begin(path: &[u8], name: &mut Path) -> Draft {
+    let before = status_at(path);
+    if path.len() >= 4096 {
+        return no_draft(NO_FILE, before);
+    }
+    if !gives_way(before) {
+        return no_draft(NOT_REPLACED, before);
+    }
+    make(path, name, before)
+}
+
+// What is wrong where no draft was made.
+pub fn not_begun(s: State, draft: Draft) -> State {
+    if draft.fd == NOT_REPLACED {
+        return wrong(s, NOT_A_REGULAR_FILE);
+    }
+    wrong(s, CANNOT_OPEN)
+}
+
+// Whether the draft has the mode of the file at its place, where there is one. It gets that file's owner and group too,
+// as far as the system lets it, so that a file which root saves stays its owner's.
+fn is_as_before(fd: i32, before: Status) -> bool {
+    if before.mode == 0 {
+        return true;
+    }
+    libc::fchown(fd, before.owner, before.group);
+    libc::fchmod(fd, before.mode & 0o7777) == 0
+}
+
+// Whether the file is safe on its disk.
+fn synced(fd: i32, before: Status) -> bool {
+    if !is_as_before(fd, before) {
         return false;
     }
     libc::fsync(fd) == 0
@@ -160,7 +224,7 @@ fn placed(whole: bool, name: &[u8], path: &[u8]) -> bool {
 
 // Ends a draft of which everything was written or not; whether the file is in its place.
 fn finish(draft: Draft, written: bool, path: &[u8], name: &Path) -> bool {
-    let whole = written && synced(draft.fd);
+    let whole = written && synced(draft.fd, draft.before);
     let closed = libc::close(draft.fd);
     placed(whole && closed == 0, bytes(name, draft.name_length), path)
 }
@@ -187,7 +251,7 @@ fn save_named(s: State, io: &mut Streams, path: &[u8], tag: &[u8]) -> State {
     let draft = begin(path, &mut name);
     let fd = draft.fd;
     if fd < 0 {
-        return wrong(s, CANNOT_OPEN);
+        return not_begun(s, draft);
     }
     let written = io::write_all(fd, tag);
     finished(s, io, draft, written, tag.len(), path, &name)

@@ -1,27 +1,39 @@
 // The table drawn: as lines of text, and as a picture in a file.
 use crate::files::begin;
 use crate::files::finished;
+use crate::files::not_begun;
 use crate::files::path_of;
 use groat_answers::at_row;
 use groat_answers::bytes;
 use groat_answers::entries;
 use groat_answers::put_refused;
-use groat_lines::CANNOT_OPEN;
+use groat_lines::BAD_TITLE;
 use groat_lines::State;
 use groat_lines::Streams;
 use groat_lines::is_fine;
-use groat_lines::last_path;
+use groat_lines::last_words;
 use groat_lines::put;
 use groat_lines::put_byte;
+use groat_lines::read_path;
 use groat_lines::wrong;
 use table::Refusal;
 
 pub fn answer(s: State, io: &mut Streams, table: &[u16]) -> State {
-    let mut here = at_row(s, io, b"plot: the table drawn in text");
+    let mut here = at_row(
+        s,
+        io,
+        b"plot: the table drawn in text",
+        b"answer: 22 lines\nrefused: 1",
+    );
     if here.met {
         return plot(here, io, entries(table, here.table));
     }
-    here = at_row(here, io, b"svg PATH: the table drawn as a picture");
+    here = at_row(
+        here,
+        io,
+        b"svg PATH TITLE..: the table drawn as a picture",
+        b"words: PATH with no spaces; TITLE of at most 60 characters, or none\nanswer: ok N, N the bytes\nrefused: 1",
+    );
     if here.met {
         return svg(here, io, entries(table, here.table));
     }
@@ -71,47 +83,64 @@ struct Drawn {
     bytes: usize,
 }
 
-fn draw_piece(fd: i32, table: &[u16], k: usize, before: usize) -> Drawn {
+fn draw_piece(fd: i32, table: &[u16], title: &[u8], k: usize, before: usize) -> Drawn {
     let mut out = [0u8; 512];
-    let n = picture::svg_piece(table, k, &mut out);
+    let n = picture::svg_piece(table, title, k, &mut out);
     Drawn {
         fine: io::write_all(fd, drawn_of(&out, n)),
         bytes: std::num::wrapping_add_usize(before, n),
     }
 }
 
-fn draw(fd: i32, table: &[u16], pieces: usize) -> Drawn {
+fn draw(fd: i32, table: &[u16], title: &[u8], pieces: usize) -> Drawn {
     let mut drawn = Drawn {
         fine: true,
         bytes: 0,
     };
     let mut k = 0;
     while k < pieces && drawn.fine {
-        drawn = draw_piece(fd, table, k, drawn.bytes);
+        drawn = draw_piece(fd, table, title, k, drawn.bytes);
         k += 1;
     }
     drawn
 }
 
-fn draw_to(s: State, io: &mut Streams, path: &[u8], table: &[u16]) -> State {
+fn draw_to(s: State, io: &mut Streams, path: &[u8], title: &[u8], table: &[u16]) -> State {
     let mut name = [0u8; 4096];
     let draft = begin(path, &mut name);
     let fd = draft.fd;
     if fd < 0 {
-        return wrong(s, CANNOT_OPEN);
+        return not_begun(s, draft);
     }
-    let drawn = draw(fd, table, picture::svg_pieces(table));
+    let drawn = draw(fd, table, title, picture::svg_pieces(table));
     finished(s, io, draft, drawn.fine, drawn.bytes, path, &name)
 }
 
+// Draws a table that can be drawn under a title that may stand in a picture.
+fn titled(s: State, io: &mut Streams, path: &[u8], title: &[u8], table: &[u16]) -> State {
+    if !picture::is_title(title) {
+        return wrong(s, BAD_TITLE);
+    }
+    if !table::sized(table.len()) {
+        return put_refused(s, io, Refusal::TableLength);
+    }
+    draw_to(s, io, path, title, table)
+}
+
+// `svg PATH TITLE..`.
 fn svg(s: State, io: &mut Streams, table: &[u16]) -> State {
     let mut path = [0u8; 4096];
-    let here = last_path(s, io, &mut path);
+    let mut title = [0u8; 4096];
+    let named = read_path(s, io, &mut path);
+    let here = last_words(named, io, &mut title);
     if !is_fine(here) {
         return here;
     }
-    if !table::sized(table.len()) {
-        return put_refused(here, io, Refusal::TableLength);
-    }
-    draw_to(here, io, path_of(&path, here.got), table)
+    titled(
+        here,
+        io,
+        path_of(&path, named.got),
+        path_of(&title, here.got),
+        table,
+    )
 }

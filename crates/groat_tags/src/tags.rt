@@ -42,35 +42,75 @@ pub fn answer(
     table: &mut [u16],
     tag: &mut [u8],
 ) -> State {
-    let mut here = at_row(s, io, b"tag BYTES: keep the bytes as the tag");
+    let mut here = at_row(
+        s,
+        io,
+        b"tag BYTES: keep the bytes as the tag",
+        b"words: BYTES as pairs of hexadecimal digits with no spaces, or - for none\nanswer: ok N, N the bytes",
+    );
     if here.met {
         return hold_tag(here, io, tag);
     }
-    here = at_row(here, io, b"hex: the tag's bytes");
+    here = at_row(
+        here,
+        io,
+        b"hex: the tag's bytes",
+        b"answer: the bytes as pairs of hexadecimal digits",
+    );
     if here.met {
         return put_bytes(here, io, bytes(tag, here.tag));
     }
-    here = at_row(here, io, b"load PATH: the file's bytes are the tag");
+    here = at_row(
+        here,
+        io,
+        b"load PATH: the file's bytes are the tag",
+        b"words: PATH with no spaces\nanswer: ok N, N the bytes",
+    );
     if here.met {
         return load(here, io, tag);
     }
-    here = at_row(here, io, b"save PATH: write the tag's bytes to the file");
+    here = at_row(
+        here,
+        io,
+        b"save PATH: write the tag's bytes to the file",
+        b"words: PATH with no spaces\nanswer: ok N, N the bytes",
+    );
     if here.met {
         return save(here, io, bytes(tag, here.tag));
     }
-    here = at_row(here, io, b"count: how many entries the curv tag has");
+    here = at_row(
+        here,
+        io,
+        b"count: how many entries the curv tag has",
+        b"answer: the number\nrefused: 8, 9, 10, 1, 8",
+    );
     if here.met {
         return count(here, io, bytes(tag, here.tag));
     }
-    here = at_row(here, io, b"read: the curv tag's entries are the table");
+    here = at_row(
+        here,
+        io,
+        b"read: the curv tag's entries are the table",
+        b"answer: ok N, N the entries\nrefused: 8, 9, 10, 1, 8",
+    );
     if here.met {
         return read(here, io, bytes(tag, here.tag), table);
     }
-    here = at_row(here, io, b"part: the bytes of the curv tag's entries");
+    here = at_row(
+        here,
+        io,
+        b"part: the bytes of the curv tag's entries",
+        b"answer: the bytes as pairs of hexadecimal digits\nrefused: 8, 9, 10, 1, 8",
+    );
     if here.met {
         return part(here, io, bytes(tag, here.tag));
     }
-    here = at_row(here, io, b"write: the curv tag of the table is the tag");
+    here = at_row(
+        here,
+        io,
+        b"write: the curv tag of the table is the tag",
+        b"answer: ok N, N the bytes\nrefused: 1",
+    );
     if here.met {
         return write(here, io, entries(table, here.table), tag);
     }
@@ -78,11 +118,17 @@ pub fn answer(
         here,
         io,
         b"para: the para tag's count and its seven raw numbers",
+        b"answer: COUNT LIST\nrefused: 8, 9, 10, 11, 8",
     );
     if here.met {
         return read_para(here, io, bytes(tag, here.tag));
     }
-    here = at_row(here, io, b"curve: the para tag as a parametric curve");
+    here = at_row(
+        here,
+        io,
+        b"curve: the para tag as a parametric curve",
+        b"answer: g,a,b,c,d,e,f\nrefused: 8, 9, 10, 11, 8",
+    );
     if here.met {
         return read_curve(here, io, bytes(tag, here.tag));
     }
@@ -90,6 +136,7 @@ pub fn answer(
         here,
         io,
         b"writepara T LIST: the para tag of type T and seven raw numbers is the tag",
+        b"words: T below 2^64; LIST of seven, -2147483648 to 2147483647\nanswer: ok N, N the bytes\nrefused: 11",
     );
     if here.met {
         return write_para(here, io, codes, tag);

@@ -5,10 +5,10 @@ use Rattle.groat_tags.proofs.pictures.draw.Statement.{statement}
 use Rattle.groat_tags.proofs.pictures.draw.Tie as tie
 
 abbrev Inv-loop : tie.InvT-loop
-Inv-loop fd table pieces drawn₀ k₀ drawn k = Unit {0}
+Inv-loop fd table title pieces drawn₀ k₀ drawn k = Unit {0}
 
 abbrev μ-loop : tie.MeasureT-loop
-μ-loop fd table pieces drawn₀ k₀ drawn k = pieces - k
+μ-loop fd table title pieces drawn₀ k₀ drawn k = pieces - k
 
 pub draw-spec : {M : Type 1} → statement M
 draw-spec =
