@@ -32,6 +32,8 @@ pub const BAD_TITLE: u8 = 12;
 
 pub const LINE_TOO_LONG: u8 = 13;
 
+pub const CANNOT_READ: u8 = 14;
+
 // The line with something wrong, unless something was wrong before.
 pub fn wrong(s: State, problem: u8) -> State {
     if s.problem != NO_PROBLEM {
@@ -61,6 +63,7 @@ fn put_text(s: State, io: &mut Streams) -> State {
         NO_SUCH_DIRECTION => put(s, io, b"error no such direction"),
         NOT_A_REGULAR_FILE => put(s, io, b"error not a regular file"),
         BAD_TITLE => put(s, io, b"error bad title"),
+        CANNOT_READ => put(s, io, b"error cannot read"),
         LINE_TOO_LONG => put(
             s,
             io,

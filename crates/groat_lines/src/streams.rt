@@ -2,6 +2,7 @@
 // half of a buffer, which is filled again whenever it is used up. Output is gathered in the other half, and written
 // out when that is full and wherever `settled` is called: before the program may have to wait for input, so that
 // nobody waits for an answer. Each half uses 65,535 bytes, so that a count of them is any 16-bit number.
+use crate::problems::CANNOT_READ;
 use crate::problems::LINE_TOO_LONG;
 use crate::problems::wrong;
 ghost use mathlib.Core.Path.{_≡_};
@@ -95,17 +96,29 @@ fn widened(byte: u8) -> u16 {
     byte as u16
 }
 
-// Reads into the first 65,535 places. Input that cannot be read counts as ended, and standard error says why.
-fn read_into(all: &mut [u8]) -> u16 {
+// What a read brought: so many bytes, 0 where the input has ended.
+enum Input {
+    Bytes(u16),
+    Failed,
+}
+
+// What a read says that answered so and brought n bytes. Where it failed, standard error says why.
+fn brought(got: isize, n: u16) -> Input {
+    if got < 0 {
+        os::fail(b"groat: standard input");
+        return Input::Failed;
+    }
+    Input::Bytes(n)
+}
+
+// Reads into the first 65,535 places.
+fn read_into(all: &mut [u8]) -> Input {
     if all.len() < 65535 {
-        return 0;
+        return Input::Failed;
     }
     let part = &mut all[0..65535];
     let got = libc::read(libc::STDIN_FILENO, part);
-    if got < 0 {
-        os::fail(b"groat: standard input");
-    }
-    io::count(got, part) as u16
+    brought(got, io::count(got, part) as u16)
 }
 
 // Whether a line that a terminal brought may have been cut. It comes by one read, with its line end after it, unless a
@@ -128,13 +141,16 @@ fn holding(s: State, io: &Streams, held: u16) -> State {
     after
 }
 
-// With a byte at hand, unless the input has ended.
+// With a byte at hand, unless the input has ended. Input that cannot be read counts as ended, and the line that it ends
+// is wrong.
 fn ready(s: State, io: &mut Streams) -> State {
     if s.at < s.held {
         return s;
     }
-    let held = read_into(io);
-    holding(s, io, held)
+    match read_into(io) {
+        Input::Bytes(n) => holding(s, io, n),
+        Input::Failed => wrong(holding(s, io, 0), CANNOT_READ),
+    }
 }
 
 // Whether the next byte can be looked at without waiting for input.
