@@ -24,12 +24,11 @@ enum Loaded {
     Failed,
 }
 
-// A file that is being written: its descriptor, the length of its name for the time being, and what stands at its
-// place. Below 0 the descriptor says why there is none.
+// A file that is being written: its descriptor, and the length of its name for the time being. Below 0 the descriptor
+// says why there is none.
 pub struct Draft {
     pub fd: i32,
     name_length: usize,
-    before: Status,
 }
 
 // In place of a descriptor: no file can be begun in the directory, or what stands at the place is to be left alone.
@@ -153,34 +152,59 @@ fn write_name(name: &mut Path, before: usize) -> usize {
     std::num::wrapping_add_usize(before, 14)
 }
 
+fn no_draft(why: i32) -> Draft {
+    Draft {
+        fd: why,
+        name_length: 0,
+    }
+}
+
+// Whether a new file has the mode of the one that it is to replace, where there is one. It gets that file's owner and
+// group too, each where the system allows it, so that a file which root saves stays its owner's.
+fn is_as_before(fd: i32, before: Status) -> bool {
+    if before.mode == 0 {
+        return true;
+    }
+    if libc::fchown(fd, before.owner, before.group) < 0 {
+        libc::fchown(fd, u32::MAX, before.group);
+    }
+    libc::fchmod(fd, before.mode & 0o777) == 0
+}
+
+// A draft that was made, or none where it could not be made as the file before it. It is still empty, so that nobody
+// reads in it what the file before it was closed to.
+fn kept(fd: i32, name: &[u8], before: Status) -> Draft {
+    if fd < 0 {
+        return no_draft(NO_FILE);
+    }
+    if is_as_before(fd, before) {
+        return Draft {
+            fd,
+            name_length: name.len(),
+        };
+    }
+    libc::close(fd);
+    os::unlink(name);
+    no_draft(NO_FILE)
+}
+
 // Makes a file in the directory of a path, under a name of its own that is put into a lent buffer. It is made as any
 // new file is, so that its mode follows the umask.
 fn make(path: &[u8], name: &mut Path, before: Status) -> Draft {
     write_at(name, 0, path);
     let length = write_name(name, directory(path));
-    Draft {
-        fd: os::create(bytes(name, length)),
-        name_length: length,
-        before,
-    }
-}
-
-fn no_draft(why: i32, before: Status) -> Draft {
-    Draft {
-        fd: why,
-        name_length: 0,
-        before,
-    }
+    let own = bytes(name, length);
+    kept(os::create(own), own, before)
 }
 
 // Begins a file that is to stand at a path.
 pub fn begin(path: &[u8], name: &mut Path) -> Draft {
     let before = status_at(path);
     if path.len() >= 4096 {
-        return no_draft(NO_FILE, before);
+        return no_draft(NO_FILE);
     }
     if !gives_way(before) {
-        return no_draft(NOT_REPLACED, before);
+        return no_draft(NOT_REPLACED);
     }
     make(path, name, before)
 }
@@ -191,24 +215,6 @@ pub fn not_begun(s: State, draft: Draft) -> State {
         return wrong(s, NOT_A_REGULAR_FILE);
     }
     wrong(s, CANNOT_OPEN)
-}
-
-// Whether the draft has the mode of the file at its place, where there is one. It gets that file's owner and group too,
-// as far as the system lets it, so that a file which root saves stays its owner's.
-fn is_as_before(fd: i32, before: Status) -> bool {
-    if before.mode == 0 {
-        return true;
-    }
-    libc::fchown(fd, before.owner, before.group);
-    libc::fchmod(fd, before.mode & 0o7777) == 0
-}
-
-// Whether the file is safe on its disk.
-fn synced(fd: i32, before: Status) -> bool {
-    if !is_as_before(fd, before) {
-        return false;
-    }
-    libc::fsync(fd) == 0
 }
 
 // Puts a file that is whole in its place, and removes one that is not; whether it is in its place.
@@ -224,7 +230,7 @@ fn placed(whole: bool, name: &[u8], path: &[u8]) -> bool {
 
 // Ends a draft of which everything was written or not; whether the file is in its place.
 fn finish(draft: Draft, written: bool, path: &[u8], name: &Path) -> bool {
-    let whole = written && synced(draft.fd, draft.before);
+    let whole = written && libc::fsync(draft.fd) == 0;
     let closed = libc::close(draft.fd);
     placed(whole && closed == 0, bytes(name, draft.name_length), path)
 }
