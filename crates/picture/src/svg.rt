@@ -1,7 +1,7 @@
 // The svg file. Its user units are drives across and densities up, so that each point in it can be read: x is the
 // drive, y is 65535 less the density.
 //
-// The curve is one line through the lookup's answers at every 51st drive, both ends included: 1,286 points, about two
+// The curve's line goes through the lookup's answers at every 51st drive, both ends included: 1,286 points, about two
 // to a pixel at the size that the file asks for. Where the curve leaves the densities at a span's two ends, the points
 // of its lowest and of its highest density stand between them, so that no spike is lost. A table of at most 64 entries
 // has a ring at each entry too.
@@ -60,9 +60,9 @@ const DARK_STYLE: [u8; 232] =
     .falls{stroke:#ff7b72}\n.note{fill:#ff7b72}\n\
     .entry{fill:#14161a;stroke:#6cb6ff}\n}\n</style>\n";
 
-// A page of its own, since a viewer's may be of any colour.
-const PAGE: [u8; 70] =
-    *b"<rect class=\"page\" x=\"-8000\" y=\"-4800\" width=\"76800\" height=\"76800\"/>\n";
+// A page of its own, since a viewer's may be of any colour. It is white where styles are left out.
+const PAGE: [u8; 82] =
+    *b"<rect class=\"page\" fill=\"#fff\" x=\"-8000\" y=\"-4800\" width=\"76800\" height=\"76800\"/>\n";
 
 const AXES: [u8; 160] = *b"<path class=\"axis\" d=\"M0,0V65535H65535\"/>\n\
     <text x=\"32768\" y=\"70700\" text-anchor=\"middle\">drive</text>\n\
