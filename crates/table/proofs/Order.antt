@@ -2,16 +2,17 @@
 -- and what holds after one entry is set. Assumes nothing.
 use mathlib.Core.Path.{_≡_, _∙_, refl, sym, ap, subst}
 use mathlib.Core.Logic.{⊎-elim}
-use mathlib.Core.Bool.{true, false}
+use mathlib.Core.Bool.{Bool, true, false, not, _||_}
 use mathlib.Core.List.{List, [], _∷_}
 use Prim.Native.Nat.{ℕ, zero, suc, _+_, _-_, _≤_, _<_, zero-le, suc-le-suc}
 use native.Mathlib.Nat.{le-refl, le-trans, le-of-suc-le-suc, not-suc-le-zero, le-suc}
 use native.Mathlib.Numerals.{add-one}
 use native.Mathlib.Omega.{arith}
 use borrow.Author.Tests.{leb-true, le-leb, lt-leb, lt-ltb, le-ltb}
-use lib.ListN.{length, getD, set, drop, length-set}
-use lib.Seq.{drop-cons, drop-length, getD-set-same, getD-set-other, set-out}
-use lib.Dec.{leb}
+use lib.ListN.{length, getD, set, drop, length-set, drop-of-length-le}
+use lib.Seq.{drop-cons, getD-set-same, getD-set-other, set-out}
+use lib.Dec.{leb, ltb}
+use Rattle.table.specs.Choice.{both}
 use Rattle.table.specs.Order.{nondecreasingFrom, nondecreasing, Nondecreasing, SixteenBits, notBelowLeft}
 use Rattle.table.specs.Order.{notAboveRight, suits}
 use Rattle.table.proofs.Choice.{both-left, both-right, same?, below?}
@@ -54,21 +55,51 @@ neighbours-test (x ∷ l) f = to-test x l f
 pub fact-test : (t : List ℕ) → Nondecreasing t → nondecreasing t ≡ true
 fact-test t R = neighbours-test t (λ i h. R i (suc i) (le-suc i) h)
 
--- A walk over the table: what is left to test after i entries, the last of which is x. At the start x is 0, and no
--- entry is below that.
-pub walk-start : (t : List ℕ) → nondecreasingFrom 0 (drop 0 t) ≡ nondecreasing t
-walk-start [] = refl
-walk-start (x ∷ l) = simp (le-leb 0 x zero-le)
+-- A walk over the table that never stops before its end: whether one of the first i entries is below the one before it,
+-- and what is left to test after them, make the whole test.
+pub record Walked (t : List ℕ) (fallen : Bool) (i : ℕ) : Type 0 where
+  pub from : 1 ≤ i
+  pub rest : both (not fallen) (nondecreasingFrom (getD t (i - 1) 0) (drop i t)) ≡ nondecreasing t
 
-pub walk-on : (t : List ℕ) (i x : ℕ) → i < length t → x ≤ getD t i 0
-    → nondecreasingFrom x (drop i t) ≡ nondecreasingFrom (getD t i 0) (drop (i + 1) t)
-walk-on t i x h le = rw (add-one, drop-cons t i 0 h) (simp (le-leb x (getD t i 0) le))
+pub walk-start : (t : List ℕ) → Walked t false 1
+walk-start t = record { from = le-refl 1; rest = first t }
+  where
+    first : (t : List ℕ) → nondecreasingFrom (getD t 0 0) (drop 1 t) ≡ nondecreasing t
+    first [] = refl
+    first (x ∷ l) = refl
 
-pub walk-stop : (t : List ℕ) (i x : ℕ) → i < length t → getD t i 0 < x → nondecreasingFrom x (drop i t) ≡ false
-walk-stop t i x h lt = rw (drop-cons t i 0 h) (simp (lt-leb x (getD t i 0) lt))
+-- the step from x to y, before a rest of the test
+one-more : (fallen : Bool) (x y : ℕ) (rest : Bool)
+    → both (not (fallen || ltb y x)) rest ≡ both (not fallen) (both (leb x y) rest)
+one-more true x y rest = refl
+one-more false x y rest =
+    ⊎-elim
+    (λ (l : y < x). simp (lt-ltb y x l, lt-leb x y l))
+    (λ (l : x ≤ y). simp (le-ltb y x l, le-leb x y l))
+    (below? y x)
 
-pub walk-end : (t : List ℕ) (i x : ℕ) → i ≡ length t → nondecreasingFrom x (drop i t) ≡ true
-walk-end t i x e = rw (e, drop-length) refl
+pub walk-on : (t : List ℕ) (fallen : Bool) (i : ℕ) → i < length t → Walked t fallen i
+    → Walked t (fallen || ltb (getD t i 0) (getD t (i - 1) 0)) (i + 1)
+walk-on t fallen i h w =
+    let x = getD t (i - 1) 0 in
+    let y = getD t i 0 in
+    let left = nondecreasingFrom y (drop (suc i) t) in
+    let next : nondecreasingFrom x (drop i t) ≡ both (leb x y) left = rw (drop-cons t i 0 h) refl in
+    let back : i + 1 - 1 ≡ i = omega arith in
+    record {
+      from = omega arith;
+      rest = rw (back, add-one) (one-more fallen x y left ∙ ap (both (not fallen)) (sym next) ∙ w .rest);
+    }
+
+pub walk-end : (t : List ℕ) (fallen : Bool) (i : ℕ) → length t ≤ i → Walked t fallen i → not fallen ≡ nondecreasing t
+walk-end t fallen i h w =
+    let none : both (not fallen) (nondecreasingFrom (getD t (i - 1) 0) (drop i t)) ≡ not fallen
+    = rw (drop-of-length-le t {i = i} h) (alone (not fallen)) in
+    sym none ∙ w .rest
+  where
+    alone : (b : Bool) → both b true ≡ b
+    alone true = refl
+    alone false = refl
 
 -- What each neighbour's test is, by whether there is one.
 module _ (t : List ℕ) (i x : ℕ) where
