@@ -1,6 +1,6 @@
 // Bytes of a tag read and written. Shared helpers with preconditions on the tag's length; not public.
 ghost use mathlib.Core.Path.{_≡_};
-ghost use Prim.Native.Nat.{_+_, _≤_};
+ghost use Prim.Native.Nat.{_+_, _*_, _/_, _%_, _≤_};
 ghost use lib.ListN.{length};
 ghost use lib.Seq.{sets};
 ghost use Rattle.icc.specs.Bytes.{be16, be32, bytes16, bytes32};
@@ -20,14 +20,22 @@ fn wide32(x: u16) -> u32
     x as u32
 }
 
-// The 16-bit number at byte i.
+// The number with its two bytes swapped.
+fn swapped(x: u16) -> u16
+    ensures { λ r. ⌜ r ≡ x % 256 * 256 + x / 256 ⌝ }
+{
+    x % 256 * 256 + x / 256
+}
+
+// The 16-bit number at byte i. It is put together low byte first, and then swapped: that is the order of a load on
+// x86-64, so the compiler makes one load of the two bytes, and a loop over many numbers swaps eight at a time.
 pub fn u16_at(tag: &[u8], i: usize) -> u16
     requires { ⌜ i + 2 ≤ length (now tag) ⌝ }
     ensures { λ r. ⌜ r ≡ be16 (now (tag .entry)) i ⌝ }
 {
-    let high = wide16(tag[i]);
-    let low = wide16(tag[i + 1]);
-    high * 256 + low
+    let low = wide16(tag[i]);
+    let high = wide16(tag[i + 1]);
+    swapped(high * 256 + low)
 }
 
 // The 32-bit number at byte i.

@@ -1,4 +1,4 @@
--- `u16_at` meets its contract: the sum is the definition's. Assumes nothing.
+-- `u16_at` meets its contract: swapped, the number whose low byte comes first is the definition's. Assumes nothing.
 use Rattle.icc.specs.Bytes.{be16}
 use borrow.Author.Needs.{needs}
 use Rattle.icc.proofs.inside.u16_at.Statement.{statement}
@@ -19,11 +19,14 @@ shared-slice-read-wide16-2 c = search needs
 wide16-requires-2 : tie.Need-wide16-requires-2
 wide16-requires-2 c κs = search needs
 
-mul-result : tie.Need-mul-result
-mul-result c = search needs
+mul-swapped : tie.Need-mul-swapped
+mul-swapped c = search needs
 
-add-result : tie.Need-add-result
-add-result c = search needs
+add-swapped : tie.Need-add-swapped
+add-swapped c = search needs
+
+swapped-requires : tie.Need-swapped-requires
+swapped-requires c κs = search needs
 
 returns : tie.Need-returns
 unfolding be16
@@ -38,6 +41,7 @@ u16-at-spec =
     add-wide16
     shared-slice-read-wide16-2
     wide16-requires-2
-    mul-result
-    add-result
+    mul-swapped
+    add-swapped
+    swapped-requires
     returns)
