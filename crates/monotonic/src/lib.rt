@@ -2,9 +2,11 @@
 // fewer than 2 entries is monotonic.
 use table::Refusal;
 use table::inside::entry;
+use table::inside::wide;
 use table::not_above;
 ghost use mathlib.Core.Path.{_≡_};
 ghost use Prim.Native.Nat.{_*_, _≤_};
+ghost use lib.ListN.{length};
 ghost use lib.Dec.{ltb};
 ghost use Rattle.monotonic.specs.Steps.{yesNo, against, violations, fewEnough};
 ghost use Rattle.monotonic.specs.Promises.{MonotonicPromise};
@@ -23,26 +25,28 @@ pub enum Monotonic {
 }
 
 // 1 for a step against the direction, 0 for any other: a number, so that the count needs no branch.
-fn against(direction: Direction, previous: usize, current: usize) -> usize
+fn against(direction: Direction, previous: usize, current: usize) -> u16
     ensures { λ r. ⌜ (r ≡ yesNo (against direction previous current)) × (r ≤ 1) ⌝ }
 {
     match direction {
-        Direction::Rising => (current < previous) as usize,
-        Direction::Falling => (previous < current) as usize,
+        Direction::Rising => (current < previous) as u16,
+        Direction::Falling => (previous < current) as u16,
     }
 }
 
-// How many steps from an entry to the next are against the direction.
+// How many steps from an entry to the next are against the direction. The count is as wide as an entry, so that the
+// compiler counts eight steps at a time.
 fn violations(table: &[u16], direction: Direction) -> usize
+    requires { ⌜ length (now table) ≤ 65536 ⌝ }
     ensures { λ r. ⌜ r ≡ violations direction (now (table .entry)) ⌝ }
 {
-    let mut count = 0;
+    let mut count: u16 = 0;
     let mut i = 1;
     while i < table.len() {
         count += against(direction, entry(table, i - 1), entry(table, i));
         i += 1;
     }
-    count
+    wide(count)
 }
 
 // 20 × count < n.

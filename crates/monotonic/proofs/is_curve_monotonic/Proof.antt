@@ -19,7 +19,7 @@ returns : tie.Need-returns
 returns c = monotonic-long _ _ (fails (c .before .not-above .ensures) (c .if1 .taken))
 
 violations-requires : tie.Need-violations-requires
-violations-requires c κs = search needs
+violations-requires c κs = leb-true _ 65536 (holds (c .before .not-above .ensures) (c .if1 .left))
 
 few-enough-requires : tie.Need-few-enough-requires
 few-enough-requires c κs =

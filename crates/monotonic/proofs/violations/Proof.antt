@@ -1,5 +1,6 @@
 -- `violations` meets its contract. The invariant: the count so far and the violations still to come add up to the
 -- table's. Assumes nothing.
+use mathlib.Core.Path.{_∙_}
 use Prim.Native.Nat.{_-_}
 use native.Mathlib.Omega.{arith}
 use borrow.Author.Needs.{needs}
@@ -44,8 +45,13 @@ loop-again c =
     rw (c .against .ensures .0, c .before .before .entry .ensures .0, c .before .entry2 .ensures .0)
     (counted-on _ _ _ _ (l .loop-test .taken) (l .before .loop .inv))
 
+wide-requires : tie.Need-wide-requires Inv-loop μ-loop
+wide-requires c κs = search needs
+
 returns : tie.Need-returns Inv-loop μ-loop
-returns c = counted-end _ _ _ _ (c .loop-test .left) (c .before .loop .inv)
+returns c =
+    let l = c .before in
+    c .wide .ensures .0 ∙ counted-end _ _ _ _ (l .loop-test .left) (l .before .loop .inv)
 
 pub violations-spec : {M : Type 1} → statement M
 violations-spec =
@@ -62,4 +68,5 @@ violations-spec =
     add-i
     loop-less
     loop-again
+    wide-requires
     returns)
