@@ -4,8 +4,8 @@ ghost use Rattle.logged.specs.State.{logged_on};
 ghost use Rattle.logged.specs.Promises.{start, accept, nudge, take_back, LogPromise};
 ghost use Rattle.brassgroat.specs.Carried.{Carried};
 
-use log::inside::PLACES;
 use logged::{log_accept, log_nudge, log_start, take_back};
+use nudge_log::inside::PLACES;
 use plain_answers::inside::number_of_done;
 use table::Density;
 

@@ -1,4 +1,6 @@
 // The curv tag of ICC.1 checked, and its entries counted.
+#![tactic(auto)]
+
 ghost use Rattle.curv.specs.Promises.{CountPromise};
 
 use icc::inside::u32_at;

@@ -1,4 +1,6 @@
 // The entries of a curv tag handed back as bytes of the tag itself.
+#![tactic(auto)]
+
 ghost use Rattle.curv_part.specs.Promises.{PartPromise};
 
 use curv::inside::tag_length;

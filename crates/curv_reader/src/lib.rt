@@ -1,4 +1,6 @@
 // The entries of a curv tag read into a lent buffer.
+#![tactic(auto)]
+
 ghost use Rattle.std.specs.Prelude.{◌≡◌, ◌≤◌, length};
 ghost use Rattle.table.specs.Fill.{tabulated};
 ghost use Rattle.curv.specs.Tag.{entry_at, tag_length};

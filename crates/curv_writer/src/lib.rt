@@ -1,4 +1,6 @@
 // A table written as the curv tag of ICC.1, and both round trips. The round trips are proved in proofs/RoundTrip.antt.
+#![tactic(auto)]
+
 ghost use Rattle.std.specs.Prelude.{◌≡◌, ◌++◌, ◌≤◌, length, take};
 ghost use Rattle.curv.specs.Tag.{tag_length};
 ghost use Rattle.curv_writer.specs.Written.{bytes_of, head};

@@ -1,4 +1,6 @@
 // How work on a curve begins: `start` makes the straight curve, `accept` tests whether a table may be worked on.
+#![tactic(auto)]
+
 ghost use Rattle.std.specs.Prelude.{◌≡◌, true, length};
 ghost use Rattle.table.specs.Sizes.{spanned};
 ghost use Rattle.curve.specs.Ramp.{ramp_of};

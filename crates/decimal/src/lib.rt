@@ -1,4 +1,6 @@
 // A decimal number as its digits come in, however many, and whether it is within its range.
+#![tactic(auto)]
+
 ghost use Rattle.std.specs.Prelude.{true, false, ◌≡◌, ◌+◌, ◌≤◌};
 ghost use Rattle.decimal.specs.Decimal.{is_digit, Stands, GrowsBy, Grows, Comes, ComesCoded};
 

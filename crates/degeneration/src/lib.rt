@@ -1,4 +1,6 @@
 // The verdict degenerated: a run of 20 or more equal entries at either end of a curve.
+#![tactic(auto)]
+
 ghost use Rattle.std.specs.Prelude.{◌≡◌, ◌<◌, length, get_or};
 ghost use Rattle.degeneration.specs.Runs.{leading, degenerated};
 ghost use Rattle.degeneration.specs.Inside.{read_from};

@@ -1,4 +1,6 @@
 // What the system knows of a file: its mode, owner and group, for a program that is to replace it.
+#![tactic(auto)]
+
 ghost use Rattle.libc.specs.Io.{Ended};
 
 use libc::{PATH_MAX, types};

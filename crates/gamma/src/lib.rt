@@ -1,4 +1,6 @@
 // The integer gamma lookup: as the 16-bit lookup, but with N - 1 for its divisor and an answer of `depth` bits.
+#![tactic(auto)]
+
 ghost use Rattle.std.specs.Prelude.{◌≡◌, ◌-◌, ◌*◌, ◌≤◌, ◌^◌, length};
 ghost use Rattle.gamma.specs.Inside.{GammaFits};
 ghost use Rattle.gamma.specs.Gamma.{gamma_unit, gamma_up};

@@ -1,5 +1,7 @@
 // The bench program: the whole library, asked one request a line and answering each with a line. It reads standard
 // input to its end. docs/GROAT.md is its language, and the script ./groat starts it.
+#![tactic(auto)]
+
 mod refusals;
 mod starting;
 mod terminal;

@@ -1,5 +1,7 @@
 // What the bench program's requests share: finding a line's request, what is kept, and answers as text. Here are the
 // answers: `ok`, `refused N`, and lists of numbers, floats and bytes.
+#![tactic(auto)]
+
 mod kept;
 mod rows;
 

@@ -2,6 +2,8 @@
 // which begins with its name and its words. What answers it stands below the row. A new request is a row more and a
 // function of its own. One that asks a list of questions is a row, a case of `Question`, and an arm each of `place_of`
 // and `put_answer`.
+#![tactic(auto)]
+
 mod floats;
 mod logs;
 mod powers;
@@ -9,7 +11,7 @@ mod questions;
 mod tables;
 
 use groat_lines::{Codes, State, Streams};
-pub use log::inside::PLACES;
+pub use nudge_log::inside::PLACES;
 
 // Answers the line where it names one of these requests. What it gives the table, the log or the floats is kept.
 pub fn answer(

@@ -7,8 +7,8 @@ use groat_lines::{
     Codes, Place, State, Streams, is_fine, last_number, last_records, put, put_byte, put_decimal,
     read_number, short,
 };
-use log::inside::{PLACES, index_of, new_of, old_of};
 use logged::{log_accept, log_nudge, log_start, take_back};
+use nudge_log::inside::{PLACES, index_of, new_of, old_of};
 use table::Density;
 
 pub fn answer(

@@ -1,6 +1,8 @@
 // The bench program's input and output: request lines read as words, numbers and lists, and answers written as bytes.
 // Nothing is held as text but a path, so a line may be as long as it likes. Each reading leaves the input at the byte
 // after what it read, and says in the state what is wrong.
+#![tactic(auto)]
+
 mod bytes;
 mod codes;
 mod lists;

@@ -1,4 +1,6 @@
 // The bench program's requests on tags, files and pictures, each with its row as in groat_curves.
+#![tactic(auto)]
+
 mod files;
 mod pictures;
 mod tags;

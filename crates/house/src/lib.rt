@@ -1,4 +1,6 @@
 // The house curve: a fixed table of 1,024 numbers, gamma 2.5. A call gives one entry of it, another all.
+#![tactic(auto)]
+
 ghost use Rattle.std.specs.Prelude.{◌≡◌, length};
 ghost use Rattle.house.specs.House.{IsHouse};
 ghost use Rattle.house.specs.Promises.{EntryPromise, FillPromise};

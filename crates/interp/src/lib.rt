@@ -1,4 +1,6 @@
 // The float lookups: a table looked up at a float from 0 to 1.
+#![tactic(auto)]
+
 ghost use Rattle.std.specs.Prelude.{◌≡◌, true, false, length};
 ghost use Rattle.table.specs.Sizes.{sized};
 ghost use Rattle.interp.specs.Interp.{unit, float_looked_up, outside_unit, weighed_up};
@@ -64,8 +66,8 @@ fn outside_unit(x: f64) -> bool
 
 // The two entries about x weighed in f64, for whoever has tested that x is from 0 to 1 and that there are entries.
 fn interp_wide(table: &[u16], x: f64) -> f64
-    requires fact_1 { sized (length table.now) ≡ true }
-    requires fact_2 { outside_unit x ≡ false }
+    requires table_sized { sized (length table.now) ≡ true }
+    requires within_unit { outside_unit x ≡ false }
     ensures { result ≡ weighed_up table.now x }
 {
     let value = x * ((table.len() - 1) as f64);

@@ -36,7 +36,7 @@ enum Found {
 // The bisection, left by `break` at the first exact hit, the form that document 01 names. The last candidate, r = l, is
 // not probed: the answers would leave the Rust's.
 fn search(table: &[u16], v: u16, left: usize, right: usize) -> Found
-    requires table_value { sized (length table.now) ≡ true }
+    requires table_sized { sized (length table.now) ≡ true }
     requires ready { Ready table.now v left right }
     ensures { result ≡ searched table.now v left right }
 {
@@ -65,8 +65,8 @@ fn search(table: &[u16], v: u16, left: usize, right: usize) -> Found
 
 // The inverse, for whoever has tested the table's length and counted its ends.
 pub fn inverse(table: &[u16], ends: Ends, v: u16) -> u16
-    requires table_value { sized (length table.now) ≡ true }
-    requires ends_of { EndsOf table.now ends }
+    requires table_sized { sized (length table.now) ≡ true }
+    requires ends_found { EndsOf table.now ends }
     ensures { result ≡ inverted table.now v }
 {
     if zero_at_once(v, ends.z, ends.w) {

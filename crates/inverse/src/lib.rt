@@ -1,5 +1,7 @@
 // The Rust's inverse, whole: a position for a value, as moxcms works it out. It is not the least position; that is
 // `least`.
+#![tactic(auto)]
+
 ghost use Rattle.inverse.specs.Promises.{InversePromise};
 
 use table::{Density, Drive, Refusal, Sought, sized};

@@ -45,8 +45,8 @@ fn between(table: &[u16], x: u16, v: u16, cell0: usize, cell1: usize) -> u16
 
 // The f64 steps, after a search that probed x last and met no hit.
 pub fn tail(table: &[u16], x: u16, v: u16) -> u16
-    requires table_value { sized (length table.now) ≡ true }
-    requires x_nonzero { 0 < x }
+    requires table_sized { sized (length table.now) ≡ true }
+    requires above_zero { 0 < x }
     ensures { result ≡ tail table.now x v }
 {
     let p = x - 1;

@@ -1,4 +1,6 @@
 // A whole table inverted by the Rust's inverse.
+#![tactic(auto)]
+
 ghost use Rattle.std.specs.Prelude.{◌≡◌, true, length};
 ghost use Rattle.table.specs.Sizes.{sized, spanned};
 ghost use Rattle.invert.specs.Invert.{inverted_of};
@@ -10,8 +12,8 @@ use table::{Done, Refusal, sized, spanned};
 
 // The inverse of each question, in f64 steps, which are not those of the start ramp.
 fn fill_inverted(table: &[u16], out: &mut [u16])
-    requires table_value { sized (length table.now) ≡ true }
-    requires out_value { spanned (length out.old) ≡ true }
+    requires table_sized { sized (length table.now) ≡ true }
+    requires out_spanned { spanned (length out.old) ≡ true }
     ensures { out.new ≡ inverted_of table.now (length out.old) }
 {
     let ends = ends_of(table);

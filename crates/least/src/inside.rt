@@ -39,7 +39,7 @@ fn in_cell(table: &[u16], top: usize, v: u16, c: usize) -> usize
 
 // The least position at which the lookup is at least v, in a table whose first entry that is not below v is entry
 // `next`.
-pub fn least(table: &[u16], top: usize, v: u16, next: usize) -> usize
+pub fn least_at(table: &[u16], top: usize, v: u16, next: usize) -> usize
     requires searchable { Searchable table.now top }
     requires first_reaching { FirstReaching table.now top v next }
     ensures { (result ≡ least_of (looked_up table.now) v) × (result ≤ 65535) }
@@ -48,4 +48,13 @@ pub fn least(table: &[u16], top: usize, v: u16, next: usize) -> usize
         return 0;
     }
     in_cell(table, top, v, next - 1)
+}
+
+// The least position at which the lookup is at least v, in a table that comes to v.
+pub fn least(table: &[u16], top: usize, v: u16) -> usize
+    requires searchable { Searchable table.now top }
+    requires reached { v ≤ last_entry table.now }
+    ensures { (result ≡ least_of (looked_up table.now) v) × (result ≤ 65535) }
+{
+    least_at(table, top, v, first_reaching(table, top, v))
 }

@@ -1,5 +1,7 @@
 // The least-input inverse, the smallest drive whose density is at least a value; and demand 3, whole
 // (specs/Demand.antt).
+#![tactic(auto)]
+
 ghost use Rattle.least.specs.Inside.{Searchable};
 ghost use Rattle.least.specs.Promises.{LeastPromise};
 
@@ -15,8 +17,7 @@ fn least_in(table: &[u16], top: usize, v: Density) -> Sought
     if table[top] < v.0 {
         return Sought::Refused(Refusal::AboveLast);
     }
-    let next = inside::first_reaching(table, top, v.0);
-    Sought::At(Drive(inside::least(table, top, v.0, next) as u16))
+    Sought::At(Drive(inside::least(table, top, v.0) as u16))
 }
 
 // The smallest position whose lookup is at least v.

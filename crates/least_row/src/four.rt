@@ -19,9 +19,9 @@ fn reaches(x: usize, v: u16) -> usize
 
 // A step of one search: `half` entries further where the last of them is below v, else no further.
 fn closer(table: &[u16], v: u16, low: usize, half: usize) -> usize
-    requires fact_1 { 0 < half }
-    requires fact_2 { low + half ≤ length table.now }
-    requires fact_3 { length table.now ≤ 65536 }
+    requires some_left { 0 < half }
+    requires within { low + half ≤ length table.now }
+    requires few { length table.now ≤ 65536 }
     ensures { result ≡ pick (ltb (get_or table.now (low + half - 1) 0) v) (low + half) low }
 {
     let middle = low + half;
@@ -30,11 +30,11 @@ fn closer(table: &[u16], v: u16, low: usize, half: usize) -> usize
 
 // A step of the searches for the four values from the i-th on.
 fn all_closer(table: &[u16], values: &[u16], i: usize, low: [usize; 4], half: usize) -> [usize; 4]
-    requires fact_1 { i + 4 ≤ length values.now }
-    requires fact_2 { length low ≡ 4 }
-    requires fact_3 { 0 < half }
-    requires fact_4 { length table.now ≤ 65536 }
-    requires fact_5 { ((j : ℕ) → j < 4 → get_or low j 0 + half ≤ length table.now) }
+    requires four_values { i + 4 ≤ length values.now }
+    requires four_searches { length low ≡ 4 }
+    requires some_left { 0 < half }
+    requires few { length table.now ≤ 65536 }
+    requires within { ((j : ℕ) → j < 4 → get_or low j 0 + half ≤ length table.now) }
     ensures { result ≡ tabulated (λ j. pick (ltb (get_or table.now (get_or low j 0 + half - 1) 0)
         (get_or values.now (i + j) 0)) (get_or low j 0 + half) (get_or low j 0)) 4 }
 {
@@ -50,8 +50,8 @@ fn all_closer(table: &[u16], values: &[u16], i: usize, low: [usize; 4], half: us
 // For each of the four values from the i-th on, the index of the first entry that is not below it, if the last entry is
 // not; else any index. Each search has `left` entries to go, and a step leaves half of them, rounded down.
 pub fn four_reaching(table: &[u16], top: usize, values: &[u16], i: usize) -> [usize; 4]
-    requires fact_1 { Searchable table.now top }
-    requires fact_2 { i + 4 ≤ length values.now }
+    requires searchable { Searchable table.now top }
+    requires four_values { i + 4 ≤ length values.now }
     ensures { (j : ℕ) → j < 4 → get_or values.now (i + j) 0 ≤ last_entry table.now
         → FirstReaching table.now top (get_or values.now (i + j) 0) (get_or result j 0) }
 {

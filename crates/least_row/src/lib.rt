@@ -1,11 +1,13 @@
 // The least inputs of a row of values.
+#![tactic(auto)]
+
 ghost use Rattle.std.specs.Prelude.{◌≤◌, ◌≡◌, length};
 ghost use Rattle.table.specs.Order.{Passed, last_entry};
 ghost use Rattle.least.specs.Inside.{Searchable, FirstReaching};
 ghost use Rattle.least_row.specs.Promises.{row_position, least_row_of, LeastRowPromise};
 
 use four::four_reaching;
-use least::inside::{first_reaching, least};
+use least::inside::{first_reaching, least_at};
 use table::{Done, Refusal, in_order, sized};
 
 mod four;
@@ -20,7 +22,7 @@ fn row_position(table: &[u16], top: usize, v: u16, next: usize) -> u32
     if table[top] < v {
         return 65536;
     }
-    least(table, top, v, next) as u32
+    least_at(table, top, v, next) as u32
 }
 
 // The same for each value, four at a time while there are four.

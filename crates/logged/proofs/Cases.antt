@@ -14,7 +14,7 @@ use Rattle.table.proofs.Sizes.{within_high}
 use Rattle.table.proofs.Answers.{done_granted, done_refused}
 use Rattle.curve.specs.Promises.{Sitting, sitting_on, start_verdict, accept_verdict, StartPromise, AcceptPromise}
 use Rattle.curve.proofs.Promises.{start_granted, start_refused}
-use Rattle.log.specs.Records.{places}
+use Rattle.nudge_log.specs.Records.{places}
 use Rattle.logged.specs.State.{Logged, logged_on}
 use Rattle.logged.specs.Promises.{Call, start, accept, call_verdict, leaves, count_after, LogPromise}
 

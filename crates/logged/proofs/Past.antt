@@ -13,7 +13,7 @@ use lib.Seq.{take-suc-set, take-take, get_or-take}
 use Rattle.table.specs.Refusals.{Verdict, granted, refused, number_in, if_granted}
 use Rattle.table.specs.declared.Done.{Done}
 use Rattle.table.proofs.Answers.{same_done}
-use Rattle.log.specs.Records.{places, word}
+use Rattle.nudge_log.specs.Records.{places, word}
 use Rattle.logged.specs.State.{Logged, logged_on, standing}
 use Rattle.logged.specs.Promises.{Call, start, accept, nudge, take_back, sound_log, call_verdict, leaves, LogPromise}
 use Rattle.logged.proofs.Promises.{nudge_found, back_some}

@@ -24,7 +24,7 @@ use Rattle.table.proofs.Answers.{same_done, done_by, done_number, done_is, done_
 use Rattle.curve.specs.Promises.{sitting_on, StartPromise, AcceptPromise}
 use Rattle.nudge.specs.Promises.{nudge_verdict, NudgePromise}
 use Rattle.nudge.proofs.Promises.{Nudgeable}
-use Rattle.log.specs.Records.{places}
+use Rattle.nudge_log.specs.Records.{places}
 use Rattle.logged.specs.State.{Logged}
 use Rattle.logged.specs.Promises.{Call, start, accept, nudge, take_back, sound_log, call_verdict, leaves, LogPromise}
 use Rattle.logged.proofs.Cases.{is_full, none_stands}

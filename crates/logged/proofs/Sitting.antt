@@ -34,9 +34,9 @@ use Rattle.curve.proofs.RampLaws.{ramp_order, ramp_bits}
 use Rattle.curve.proofs.Promises.{start_granted, accept_granted}
 use Rattle.nudge.proofs.Promises.{Nudgeable}
 use Rattle.least.proofs.Demand.{demand_3}
-use Rattle.log.specs.Records.{places, word, old_of, index_of, nudged, all_nudged, goes_with}
-use Rattle.log.proofs.Records.{index_word, old_word, new_word, old_narrow}
-use Rattle.log.proofs.Replay.{Grantable, Kept, kept_none, kept_order, kept_more, kept_less, kept_goes}
+use Rattle.nudge_log.specs.Records.{places, word, old_of, index_of, nudged, all_nudged, goes_with}
+use Rattle.nudge_log.proofs.Records.{index_word, old_word, new_word, old_narrow}
+use Rattle.nudge_log.proofs.Replay.{Grantable, Kept, kept_none, kept_order, kept_more, kept_less, kept_goes}
 use Rattle.logged.specs.State.{Logged, standing, last_standing, Lent}
 use Rattle.logged.specs.Promises.{Call, start, accept, nudge, take_back, sound_log, call_verdict, leaves, LogPromise}
 use Rattle.logged.specs.Sitting.{Typed, Step, Turn, Run, begins, WholeSitting, ended, starting_from, starting_table}

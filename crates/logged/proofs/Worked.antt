@@ -15,7 +15,7 @@ use Rattle.table.specs.declared.Refusal.{Refusal}
 use Rattle.table.specs.declared.Refusal.TheVariants.{TableLength, NotNondecreasing, IndexBeyond, OutsideNeighbours}
 use Rattle.table.specs.declared.Refusal.TheVariants.{LogFull, NothingToTakeBack, BadLog}
 use Rattle.curve.specs.Ramp.{ramp}
-use Rattle.log.specs.Records.{word, goes_with}
+use Rattle.nudge_log.specs.Records.{word, goes_with}
 use Rattle.logged.specs.State.{Logged, logged_on, Lent}
 use Rattle.logged.specs.Promises.{Call, start, accept, nudge, take_back, LogPromise}
 use Rattle.logged.specs.Sitting.{Turn, WholeSitting, ended, standing_nudges, Obeys, AllGranted}

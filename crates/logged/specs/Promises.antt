@@ -11,7 +11,7 @@ use Rattle.table.specs.declared.Done.{Done}
 use Rattle.table.specs.declared.Refusal.TheVariants.{TableLength, NotNondecreasing, IndexBeyond, OutsideNeighbours}
 use Rattle.table.specs.declared.Refusal.TheVariants.{LogFull, NothingToTakeBack, BadLog}
 use Rattle.curve.specs.Ramp.{ramp_of}
-use Rattle.log.specs.Records.{places, word, taken_back, goes_with}
+use Rattle.nudge_log.specs.Records.{places, word, taken_back, goes_with}
 use Rattle.logged.specs.State.{Logged, logged_on, last_standing}
 
 -- a call, with what it is given

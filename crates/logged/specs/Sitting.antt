@@ -10,7 +10,7 @@ use Rattle.table.specs.Turns.{end}
 use Rattle.table.specs.declared.Done.{Done}
 use Rattle.lookup.specs.Demand.{LookupObeys}
 use Rattle.least.specs.Demand.{LeastObeys}
-use Rattle.log.specs.Records.{places, word, all_nudged}
+use Rattle.nudge_log.specs.Records.{places, word, all_nudged}
 use Rattle.logged.specs.State.{Logged, standing, Lent}
 use Rattle.logged.specs.Promises.{Call, start, accept, nudge, take_back, LogPromise}
 

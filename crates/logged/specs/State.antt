@@ -1,7 +1,7 @@
 -- A table and its log. Assumes nothing.
 use Rattle.std.specs.Prelude.{ℕ, ◌-◌, ◌≡◌, List, length, get_or, take}
 use Rattle.table.specs.Order.{SixteenBits}
-use Rattle.log.specs.Records.{places}
+use Rattle.nudge_log.specs.Records.{places}
 
 -- What a sitting with a log keeps from one call to the next: the table, the words in the log's places, and how many
 -- nudges stand.

@@ -1,11 +1,13 @@
 // Start, accept, nudge and take-back over a table and its log, and what a sitting with a log is. Whoever calls lends
 // the table, the log's words and how many nudges stand. What the calls keep throughout a sitting is in
 // specs/Sitting.antt.
+#![tactic(auto)]
+
 ghost use Rattle.std.specs.Prelude.{◌≡◌};
 ghost use Rattle.logged.specs.State.{logged_on};
 ghost use Rattle.logged.specs.Promises.{start, accept, nudge, take_back, count_after, LogPromise};
 
-use log::inside::{PLACES, goes_with, index_of, old_of, word};
+use nudge_log::inside::{PLACES, goes_with, index_of, old_of, word};
 use table::inside::{suits, wide};
 use table::{Density, Done, Refusal, in_order, sized};
 

@@ -1,4 +1,6 @@
 // The 16-bit lookup, the density at a drive, and what it shares with the gamma lookup.
+#![tactic(auto)]
+
 ghost use Rattle.lookup.specs.Promises.{LookupPromise};
 
 use table::{Density, Drive, Looked, Refusal, sized};

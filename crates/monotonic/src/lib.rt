@@ -1,5 +1,7 @@
 // The verdict monotonic: 20 × violations < entries, where a violation is a step against the given direction. A table of
 // fewer than 2 entries is monotonic.
+#![tactic(auto)]
+
 ghost use Rattle.std.specs.Prelude.{◌≡◌, ◌*◌, ◌≤◌, length, ltb};
 ghost use Rattle.monotonic.specs.Steps.{yes_no, against, violations, few_enough};
 ghost use Rattle.monotonic.specs.Promises.{MonotonicPromise};

@@ -1,5 +1,7 @@
 // The nudge of one entry of a curve's table, and what a sitting is. What holds throughout every sitting, demand 3's
 // part on the table, is in specs/Demand.antt.
+#![tactic(auto)]
+
 ghost use Rattle.curve.specs.Promises.{sitting_on};
 ghost use Rattle.nudge.specs.Promises.{NudgePromise};
 

@@ -1,4 +1,6 @@
 // The para tag of ICC.1 checked, and its numbers read.
+#![tactic(auto)]
+
 ghost use Rattle.std.specs.Prelude.{◌≡◌, ◌≤◌, length};
 ghost use Rattle.para.specs.Signed.{signed_of};
 ghost use Rattle.para.specs.Tag.{tag_length, used_at, used, raw_at};

@@ -1,4 +1,6 @@
 // A para tag read as a parametric curve.
+#![tactic(auto)]
+
 ghost use Rattle.std.specs.Prelude.{map, ◌≤◌, take};
 ghost use Rattle.parametric.specs.Promises.{NewPromise};
 ghost use Rattle.para.specs.Tag.{listed};

@@ -1,5 +1,7 @@
 // A function type and its numbers written as the para tag of ICC.1, and both round trips. The round trips are proved in
 // proofs/RoundTrip.antt.
+#![tactic(auto)]
+
 ghost use Rattle.std.specs.Prelude.{◌≡◌, ◌++◌, ◌≤◌, length, take};
 ghost use Rattle.icc.specs.Bytes.{bytes32};
 ghost use Rattle.icc.specs.Words.{in_turn};
@@ -46,8 +48,8 @@ fn put_patterns(patterns: &[u32], out: &mut [u8])
 
 // The bytes of the first n numbers, after the first twelve.
 fn put_numbers(numbers: Numbers, n: usize, out: &mut [u8])
-    requires fact_1 { n ≤ 7 }
-    requires fact_2 { length out.old ≡ tag_length n }
+    requires few { n ≤ 7 }
+    requires out_len { length out.old ≡ tag_length n }
     ensures { out.new ≡ take 12 out.old ++ in_turn bytes32 (take n (patterns numbers)) }
 {
     let patterns = [

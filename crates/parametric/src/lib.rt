@@ -1,4 +1,6 @@
 // Parametric curves: unified from the 1, 3, 4, 5 or 7 parameters of a tag, and compared.
+#![tactic(auto)]
+
 ghost use Rattle.std.specs.Prelude.{◌≡◌, true, min, length};
 ghost use Rattle.parametric.specs.Compare.{far};
 ghost use Rattle.parametric.specs.Promises.{NewPromise, ComparePromise};

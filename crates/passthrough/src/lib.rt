@@ -1,4 +1,6 @@
 // The passthrough table of floats: entry i of n is i·(1/(n-1)).
+#![tactic(auto)]
+
 ghost use Rattle.std.specs.Prelude.{◌≡◌, true, length};
 ghost use Rattle.table.specs.Sizes.{spanned};
 ghost use Rattle.passthrough.specs.Passed.{passed_through};

@@ -1,4 +1,6 @@
 // Floats by their bit patterns. Rattle makes no float of a NaN's pattern, so one NaN stands for all of them.
+#![tactic(auto)]
+
 ghost use Rattle.std.specs.Prelude.{◌≡◌};
 ghost use Rattle.std.specs.Float.{binary32, binary64};
 ghost use Rattle.std.specs.Float.Ieee.{of_bits};

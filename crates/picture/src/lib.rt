@@ -1,5 +1,7 @@
 // A curve's picture as text: a plot for a terminal, and the pieces of an svg file for a browser. Drive runs across and
 // density up. Nothing is read or written here: the caller lends a buffer and sends it on.
+#![tactic(auto)]
+
 ghost use Rattle.std.specs.Prelude.{◌≡◌, length};
 ghost use Rattle.picture.specs.Svg.{pieces_of};
 ghost use Rattle.picture.specs.Title.{is_title};

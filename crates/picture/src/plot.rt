@@ -106,8 +106,8 @@ fn margin(row: usize) -> [u8; 9] {
 
 // A line ends at its last mark.
 fn end_after(end: usize, at: usize, b: u8) -> usize
-    requires at_bound { at < 128 }
-    requires le_end { (1 ≤ end) × (end ≤ 128) }
+    requires at_inside { at < 128 }
+    requires end_inside { (1 ≤ end) × (end ≤ 128) }
     ensures { (1 ≤ result) × (result ≤ 128) }
 {
     if b == b' ' {

@@ -1,6 +1,8 @@
 // The library's answers as C and Rust see them: each a struct of plain fields. The refusal's number comes first, and
 // every other field of a refused answer is 0. include/brassgroat.h has the same structs; the face, brassgroat, hands
 // them over.
+#![tactic(auto)]
+
 ghost use Rattle.std.specs.Prelude.{◌≡◌};
 ghost use Rattle.plain_answers.specs.Answers.{version};
 

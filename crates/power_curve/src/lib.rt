@@ -1,5 +1,7 @@
 // Gamma curves worked out on whole numbers: one value or a whole table, by an exponent in 65536ths or by a gamma tag's
 // entry.
+#![tactic(auto)]
+
 ghost use Rattle.std.specs.Prelude.{◌≡◌, true, length};
 ghost use Rattle.table.specs.Sizes.{spanned};
 ghost use Rattle.power_curve.specs.Curve.{added, value_at, table_of, exponent_of};

@@ -1,5 +1,7 @@
 // Rounding that Rattle's `as` leaves to the program: f64 and fixed-point numbers to the nearest f32; floor, ceil, min
 // and abs. Floor and ceil, which have a precondition, stand in `inside`.
+#![tactic(auto)]
+
 ghost use Rattle.std.specs.Prelude.{◌+◌, ◌/◌, ◌%◌, ◌<◌, ◌≤◌, ◌≡◌, Bool, cond};
 ghost use Rattle.std.specs.Float.{binary32, binary64};
 ghost use Rattle.std.specs.Float.Ieee.{of_bits, of_fields};
@@ -13,10 +15,10 @@ pub mod inside; // inside.rt: floor and ceil
 // quotient is odd, are added first: the sum reaches the next multiple of d exactly where the quotient goes up. A test
 // would go by digits that are as good as random.
 fn nearest_quotient(n: u64, d: u64) -> u64
-    requires fact_1 { 2 ≤ d }
-    requires fact_2 { d % 2 ≡ 0 }
-    requires fact_3 { d ≤ 0x4000_0000_0000_0000 }
-    requires fact_4 { n < 0x4000_0000_0000_0000 }
+    requires some { 2 ≤ d }
+    requires even { d % 2 ≡ 0 }
+    requires d_small { d ≤ 0x4000_0000_0000_0000 }
+    requires n_small { n < 0x4000_0000_0000_0000 }
     ensures { result ≡ closest n d }
 {
     (n + d / 2 + n / d % 2 - 1) / d
@@ -28,8 +30,8 @@ fn nearest_quotient(n: u64, d: u64) -> u64
 // from 873 (0x369) to 896 the f32 is subnormal, with one digit less for each step down.
 fn magnitude(bits: u64) -> u64
     requires { bits ≤ 0x7ff0_0000_0000_0000 }
-    ensures fact_1 { result ≤ 0x7f80_0000 }
-    ensures fact_2 { ((s : Bool) → of_bits binary32 (cond s 0x8000_0000 0 + result)
+    ensures in_range { result ≤ 0x7f80_0000 }
+    ensures nearest { ((s : Bool) → of_bits binary32 (cond s 0x8000_0000 0 + result)
         ≡ narrow (of_fields binary64 s (bits / 0x10_0000_0000_0000) (bits % 0x10_0000_0000_0000))) }
 {
     if bits >= 0x47f0_0000_0000_0000 {

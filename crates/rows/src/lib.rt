@@ -1,4 +1,6 @@
 // Many lookups in one table: at a row of drives, and at every drive (the baked table).
+#![tactic(auto)]
+
 ghost use Rattle.std.specs.Prelude.{◌≡◌, true, length};
 ghost use Rattle.table.specs.Sizes.{sized};
 ghost use Rattle.rows.specs.Rows.{row_of, baked_of};
@@ -10,7 +12,7 @@ use table::{Done, Refusal, sized};
 
 // The lookup at each position.
 fn fill_by_lookup(table: &[u16], positions: &[u16], out: &mut [u16])
-    requires table_value { sized (length table.now) ≡ true }
+    requires table_sized { sized (length table.now) ≡ true }
     requires out_len { length out.old ≡ length positions.now }
     ensures { out.new ≡ row_of table.now positions.now }
 {
@@ -37,7 +39,7 @@ fn fill_by_load(baked: &[u16], positions: &[u16], out: &mut [u16])
 
 // The quicker of the two that the table allows.
 fn fill_row(table: &[u16], positions: &[u16], out: &mut [u16])
-    requires table_value { sized (length table.now) ≡ true }
+    requires table_sized { sized (length table.now) ≡ true }
     requires out_len { length out.old ≡ length positions.now }
     ensures { out.new ≡ row_of table.now positions.now }
 {
@@ -64,7 +66,7 @@ pub fn lut_interp_linear16_row(table: &[u16], positions: &[u16], out: &mut [u16]
 
 // The lookup at every position.
 fn fill_baked(table: &[u16], out: &mut [u16])
-    requires table_value { sized (length table.now) ≡ true }
+    requires table_sized { sized (length table.now) ≡ true }
     requires out_len { length out.old ≡ 65536 }
     ensures { out.new ≡ baked_of table.now }
 {

@@ -1,5 +1,7 @@
 // What the crates share: `Drive` and `Density`, refusals and answers, table lengths, order, runs, filled buffers, calls
 // in turn.
+#![tactic(auto)]
+
 ghost use Rattle.std.specs.Prelude.{◌≡◌};
 ghost use Rattle.table.specs.Refusals.{number_of};
 ghost use Rattle.table.specs.Sizes.{within, sized, spanned, not_above};

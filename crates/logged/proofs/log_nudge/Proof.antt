@@ -9,7 +9,7 @@ use lib.Dec.{ltb, leb}
 use Rattle.table.specs.Sizes.{sized}
 use Rattle.table.specs.Order.{nondecreasing}
 use Rattle.table.proofs.Choice.{fails, holds}
-use Rattle.log.specs.Records.{places}
+use Rattle.nudge_log.specs.Records.{places}
 use Rattle.logged.proofs.Cases.{refused_so, granted_so, is_full, has_room, index_narrow}
 use Rattle.logged.proofs.log_nudge.Statement.{statement}
 use Rattle.logged.proofs.log_nudge.Tie as tie

@@ -8,7 +8,7 @@ use lib.ListN.{length}
 use Rattle.table.specs.Sizes.{sized}
 use Rattle.table.specs.Order.{nondecreasing}
 use Rattle.table.proofs.Choice.{fails, holds}
-use Rattle.log.proofs.Records.{goes_inside}
+use Rattle.nudge_log.proofs.Records.{goes_inside}
 use Rattle.logged.proofs.Cases.{refused_so, granted_so, none_stands, one_stands, index_narrow}
 use Rattle.logged.proofs.take_back.Statement.{statement}
 use Rattle.logged.proofs.take_back.Tie as tie

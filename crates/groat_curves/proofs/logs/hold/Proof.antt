@@ -1,6 +1,6 @@
 -- `hold` is safe and ends. Assumes nothing.
 use Rattle.std.proofs.Common.{◌-◌, rules}
-use Rattle.log.specs.Records.{places}
+use Rattle.nudge_log.specs.Records.{places}
 use Rattle.groat_curves.proofs.logs.hold.Statement.{statement}
 use Rattle.groat_curves.proofs.logs.hold.Tie as tie
 

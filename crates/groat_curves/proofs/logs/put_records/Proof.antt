@@ -1,6 +1,6 @@
 -- `put_records` is safe and ends. Assumes nothing.
 use Rattle.std.proofs.Common.{◌-◌, rules}
-use Rattle.log.specs.Records.{places}
+use Rattle.nudge_log.specs.Records.{places}
 use Rattle.groat_curves.proofs.logs.put_records.Statement.{statement}
 use Rattle.groat_curves.proofs.logs.put_records.Tie as tie
 

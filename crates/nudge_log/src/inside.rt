@@ -1,6 +1,6 @@
 // What the calls over a log are made of. Shared helpers, not public; `word` has a precondition.
 ghost use Rattle.std.specs.Prelude.{◌≡◌, ◌≤◌, ◌<◌};
-ghost use Rattle.log.specs.Records.{word as word_of, new_of, old_of, index_of, goes_with};
+ghost use Rattle.nudge_log.specs.Records.{word as word_of, new_of, old_of, index_of, goes_with};
 
 use table::inside::{entry, suits, wide};
 

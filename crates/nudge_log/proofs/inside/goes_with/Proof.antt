@@ -1,9 +1,9 @@
 -- `goes_with` makes the three tests in their order. Assumes nothing.
 use mathlib.Core.Path.{◌∙◌, sym}
 use borrow.Author.Rules.{rules}
-use Rattle.log.proofs.Records.{goes_beyond, goes_other, goes_same}
-use Rattle.log.proofs.inside.goes_with.Statement.{statement}
-use Rattle.log.proofs.inside.goes_with.Tie as tie
+use Rattle.nudge_log.proofs.Records.{goes_beyond, goes_other, goes_same}
+use Rattle.nudge_log.proofs.inside.goes_with.Statement.{statement}
+use Rattle.nudge_log.proofs.inside.goes_with.Tie as tie
 
 returns : tie.Need-returns
 returns c = sym (goes_beyond _ _ (rw c.before.index_of.ensures at c.if1.true))

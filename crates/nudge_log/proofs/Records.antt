@@ -8,7 +8,7 @@ use borrow.Author.Tests.{lt-ltb, le-ltb, eq-eqb, ne_eqb, ltb-true}
 use lib.ListN.{length, get_or}
 use Rattle.table.specs.Order.{not_below_left, not_above_right, suits}
 use Rattle.table.proofs.Choice.{both_left}
-use Rattle.log.specs.Records.{word, new_of, old_of, index_of, goes_with}
+use Rattle.nudge_log.specs.Records.{word, new_of, old_of, index_of, goes_with}
 
 module _ (i old new : ℕ) (o : old < 65536) (n : new < 65536) where
   -- A word's index is the one that it was made of. [log]

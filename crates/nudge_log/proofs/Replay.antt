@@ -14,8 +14,8 @@ use lib.Dec.{leb}
 use Rattle.table.specs.Order.{nondecreasing, not_below_left, not_above_right, suits}
 use Rattle.table.proofs.Choice.{below?}
 use Rattle.table.proofs.Order.{test_fact, set_test, left_is, left_none, right_is, right_none}
-use Rattle.log.specs.Records.{new_of, old_of, index_of, nudged, taken_back, all_nudged, goes_with}
-use Rattle.log.proofs.Records.{goes_same}
+use Rattle.nudge_log.specs.Records.{new_of, old_of, index_of, nudged, taken_back, all_nudged, goes_with}
+use Rattle.nudge_log.proofs.Records.{goes_same}
 
 -- w is the record of a nudge that may be granted at the table t
 pub record Grantable (t : List ℕ) (w : ℕ) : Type 0 where
