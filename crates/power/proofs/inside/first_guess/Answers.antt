@@ -7,8 +7,7 @@ use borrow.Author.Rules.{rules}
 use lib.Count.{count_leading_zeros, leading_le, leading_length}
 use Rattle.power.specs.Inside.{NotBelowRoot}
 use Rattle.power.proofs.Newton.{shifted_one, start_small, start_quotient, start_keeps}
-use Rattle.power.proofs.inside.first_guess.Statement.{statement}
-use Rattle.power.proofs.inside.first_guess.Tie as tie
+use Rattle.power.proofs.inside.first_guess.Goals as goal
 
 -- how far the code shifts
 abbrev half : ℕ → ℕ
@@ -36,28 +35,10 @@ keeps v h =
     let few : l.0 ≤ 64 = omega (arith, l.1) in
     subst (λ (k : ℕ). NotBelowRoot v (k / 2)) (sym (sum_is v l.0 l.1)) (start_keeps v l.0 few l.2)
 
-sub-half : tie.Need-overflow-sub-half
-sub-half c = leading_le 64 c.args.v
+pub overflow_add-result : goal.overflow_add-result
+overflow_add-result c =
+    record { fits = sum_small c.args.v c.ranges.v.fits }
 
-cast-result : tie.Need-overflow-cast-result
-cast-result c = search rules
-
-shl-result : tie.Need-overflow-shl-result
-shl-result c = search rules
-
-cast-result-2 : tie.Need-overflow-cast-result-2
-cast-result-2 c = search rules
-
-shr-result : tie.Need-overflow-shr-result
-shr-result c = search rules
-
-add-result : tie.Need-overflow-add-result
-add-result c = record { fits = sum_small c.args.v c.ranges.v.fits }
-
-returns : tie.Need-returns
-returns c = keeps c.args.v c.ranges.v.fits
-
-pub first_guess_spec : {M : Type 1} → statement M
-first_guess_spec =
-    tie.close
-    (tie.spec sub-half cast-result shl-result cast-result-2 shr-result add-result returns)
+pub returns : goal.returns
+returns c =
+    keeps c.args.v c.ranges.v.fits
