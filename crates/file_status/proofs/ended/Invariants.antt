@@ -1,3 +1,5 @@
+-- `ended` meets its contract: the loop keeps the array's length, so that its last place, which gets the 0, is one of
+-- it. Assumes nothing.
 use Rattle.std.proofs.Common.{◌≡◌, length, ◌-◌}
 use Rattle.file_status.proofs.ended.Given as goal
 

@@ -1,3 +1,4 @@
+-- `has_zero` is safe and ends. Assumes nothing.
 use Rattle.std.proofs.Common.{length, ◌-◌}
 use Rattle.file_status.proofs.has_zero.Given as goal
 
