@@ -9,7 +9,7 @@ use table::Refusal;
 pub mod inside;
 
 // The answer of a call that counts a tag's entries.
-#[derive(Drop)]
+#[derive(Clone, Copy)]
 pub enum Counted {
     Entries(usize),
     Refused(Refusal),

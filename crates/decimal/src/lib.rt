@@ -15,7 +15,7 @@ const TENTH: u64 = 1844674407370955161;
 const HALF: u64 = 0x8000_0000;
 
 // What a number comes to in its place. In `A:B` the number B may be one above the largest of its place.
-#[derive(Drop)]
+#[derive(Clone, Copy)]
 pub enum Sum {
     Suits(u64),
     OneAbove,
@@ -23,7 +23,7 @@ pub enum Sum {
 }
 
 // A number so far, with whether it has a digit: value; or 2^64 where `past` is 1; or more than that where it is 2.
-#[derive(Drop)]
+#[derive(Clone, Copy)]
 pub struct Natural {
     value: u64,
     past: u8,

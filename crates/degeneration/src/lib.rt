@@ -10,14 +10,14 @@ use table::inside::entry;
 use table::{Refusal, not_above};
 
 // An end of a table.
-#[derive(Drop)]
+#[derive(Clone, Copy)]
 enum End {
     First,
     Last,
 }
 
 // The verdict.
-#[derive(Drop)]
+#[derive(Clone, Copy)]
 pub enum Degenerated {
     Yes,
     No,

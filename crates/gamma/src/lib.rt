@@ -10,7 +10,7 @@ use lookup::inside::weighted;
 use table::{Refusal, sized, spanned, within};
 
 // The answer of the gamma lookup.
-#[derive(Drop)]
+#[derive(Clone, Copy)]
 pub enum Coded {
     Value(u16),
     Refused(Refusal),

@@ -11,7 +11,7 @@ use rounding::{min_f32, nearest_f64_to_f32};
 use table::{Refusal, not_above, sized};
 
 // The answer of a lookup that gives a float.
-#[derive(Drop)]
+#[derive(Clone, Copy)]
 pub enum Interpolated {
     Value(f32),
     Refused(Refusal),

@@ -10,7 +10,7 @@ use inverse_tail::inside::tail;
 use lookup::inside::lookup_to;
 
 // The runs at a table's ends: document 01's z, the leading 0 entries, and w, the trailing 65535 entries.
-#[derive(Drop)]
+#[derive(Clone, Copy)]
 pub struct Ends {
     pub z: usize,
     pub w: usize,
@@ -27,7 +27,7 @@ pub fn ends_of(table: &[u16]) -> Ends
 }
 
 // What the search comes to: the position of its first exact hit, or, with none, the x that it probed last.
-#[derive(Drop)]
+#[derive(Clone, Copy)]
 enum Found {
     Hit(u16),
     Missed(u16),

@@ -10,14 +10,14 @@ use table::inside::{entry, wide};
 use table::{Refusal, not_above};
 
 // Which way a curve is to go. The Rust works this out by a routine that is not in its text, so here the caller says it.
-#[derive(Drop)]
+#[derive(Clone, Copy)]
 pub enum Direction {
     Rising,
     Falling,
 }
 
 // The verdict, with the violations: how many steps are against the direction.
-#[derive(Drop)]
+#[derive(Clone, Copy)]
 pub enum Monotonic {
     Yes(usize),
     No(usize),

@@ -13,7 +13,7 @@ pub mod inside;
 
 // Seven raw 16.16 numbers in a tag's order, by ICC.1's letters. C and Rust see them as they stand here.
 #[repr(C)]
-#[derive(Drop)]
+#[derive(Clone, Copy)]
 pub struct Numbers {
     pub g: i32,
     pub a: i32,
@@ -25,7 +25,7 @@ pub struct Numbers {
 }
 
 // The answer of a call that reads a tag: how many numbers it has, and seven, of which the others are 0.
-#[derive(Drop)]
+#[derive(Clone, Copy)]
 pub enum Read {
     Parameters(usize, Numbers),
     Refused(Refusal),

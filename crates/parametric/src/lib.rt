@@ -11,7 +11,7 @@ use table::Refusal;
 
 // (aX + b)^g + e from X = d on, cX + f below. C and Rust see it as it stands here.
 #[repr(C)]
-#[derive(Drop)]
+#[derive(Clone, Copy)]
 pub struct ParametricCurve {
     pub g: f32,
     pub a: f32,
@@ -23,7 +23,7 @@ pub struct ParametricCurve {
 }
 
 // The answer of `ParametricCurve::new`.
-#[derive(Drop)]
+#[derive(Clone, Copy)]
 pub enum Unified {
     Curve(ParametricCurve),
     Refused(Refusal),

@@ -9,7 +9,7 @@ ghost use Rattle.picture.specs.Title.{is_title, is_shown};
 const MOST: usize = 60;
 
 // What may come next in a text.
-#[derive(Drop)]
+#[derive(Clone, Copy)]
 enum Next {
     // A character's first byte, or the end.
     First,

@@ -17,14 +17,14 @@ pub fn drive_of(column: usize) -> Drive
 }
 
 // A drive, and the curve's density there.
-#[derive(Drop)]
+#[derive(Clone, Copy)]
 pub struct Point {
     pub drive: Drive,
     pub density: Density,
 }
 
 // The lowest and the highest point of a span: of several the first.
-#[derive(Drop)]
+#[derive(Clone, Copy)]
 pub struct Reach {
     pub valley: Point,
     pub peak: Point,

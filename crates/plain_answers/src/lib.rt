@@ -22,7 +22,7 @@ pub fn version() -> u32
 
 // A sample.
 #[repr(C)]
-#[derive(Drop)]
+#[derive(Clone, Copy)]
 pub struct Sample {
     pub refusal: u32,
     pub density: Density,
@@ -30,7 +30,7 @@ pub struct Sample {
 
 // A position.
 #[repr(C)]
-#[derive(Drop)]
+#[derive(Clone, Copy)]
 pub struct Position {
     pub refusal: u32,
     pub drive: Drive,
@@ -38,7 +38,7 @@ pub struct Position {
 
 // The gamma lookup's code.
 #[repr(C)]
-#[derive(Drop)]
+#[derive(Clone, Copy)]
 pub struct Code {
     pub refusal: u32,
     pub code: u16,
@@ -46,7 +46,7 @@ pub struct Code {
 
 // A float.
 #[repr(C)]
-#[derive(Drop)]
+#[derive(Clone, Copy)]
 pub struct Real {
     pub refusal: u32,
     pub value: f32,
@@ -54,7 +54,7 @@ pub struct Real {
 
 // A parametric curve.
 #[repr(C)]
-#[derive(Drop)]
+#[derive(Clone, Copy)]
 pub struct Parametric {
     pub refusal: u32,
     pub curve: ParametricCurve,
@@ -62,7 +62,7 @@ pub struct Parametric {
 
 // The verdict monotonic, and the violations: how many steps are against the direction.
 #[repr(C)]
-#[derive(Drop)]
+#[derive(Clone, Copy)]
 pub struct Monotony {
     pub refusal: u32,
     pub yes: bool,
@@ -71,7 +71,7 @@ pub struct Monotony {
 
 // The verdict degenerated.
 #[repr(C)]
-#[derive(Drop)]
+#[derive(Clone, Copy)]
 pub struct Degeneration {
     pub refusal: u32,
     pub yes: bool,
@@ -79,7 +79,7 @@ pub struct Degeneration {
 
 // How many entries a curv tag has.
 #[repr(C)]
-#[derive(Drop)]
+#[derive(Clone, Copy)]
 pub struct Count {
     pub refusal: u32,
     pub entries: usize,
@@ -87,7 +87,7 @@ pub struct Count {
 
 // How many numbers a para tag has, and seven, of which the others are 0.
 #[repr(C)]
-#[derive(Drop)]
+#[derive(Clone, Copy)]
 pub struct Para {
     pub refusal: u32,
     pub count: usize,

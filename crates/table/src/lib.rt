@@ -11,17 +11,17 @@ pub mod inside;
 
 // A position, the input side of a curve. The lab calls it drive.
 #[repr(C)]
-#[derive(Drop)]
+#[derive(Clone, Copy)]
 pub struct Drive(pub u16);
 
 // A sample value, the output side of a curve. The lab calls it density.
 #[repr(C)]
-#[derive(Drop)]
+#[derive(Clone, Copy)]
 pub struct Density(pub u16);
 
 // Why a call is refused: a case for each row of document 01, and for each that a request of document 02 has added, in
 // the order of their numbers. What each means stands once, as a sentence in `bg_refusal_text` of include/brassgroat.h.
-#[derive(Drop)]
+#[derive(Clone, Copy)]
 pub enum Refusal {
     TableLength, // 1
     NotNondecreasing, // 2
@@ -43,21 +43,21 @@ pub enum Refusal {
 }
 
 // The answer of a call that only does something.
-#[derive(Drop)]
+#[derive(Clone, Copy)]
 pub enum Done {
     Yes,
     Refused(Refusal),
 }
 
 // The answer of a call that gives a sample.
-#[derive(Drop)]
+#[derive(Clone, Copy)]
 pub enum Looked {
     At(Density),
     Refused(Refusal),
 }
 
 // The answer of a call that gives a position.
-#[derive(Drop)]
+#[derive(Clone, Copy)]
 pub enum Sought {
     At(Drive),
     Refused(Refusal),
