@@ -1,0 +1,17 @@
+-- `search` meets its contract. The invariant: searching on between l and r gives what the whole search gives; every x
+-- that can be probed there has x - 1 for a position; and the last x probed is at most 65535. Assumes nothing.
+use mathlib.Core.Path.{◌≡◌, ◌∙◌, sym, subst}
+use Prim.Native.Nat.{ℕ, ◌≤◌, ◌<◌, ◌-◌}
+use native.Mathlib.Omega.{arith}
+use Rattle.table.proofs.Sizes.{within_low, within_high}
+use Rattle.inverse.specs.Inside.{Ready}
+use Rattle.inverse.specs.Inverse.{searched}
+use Rattle.inverse.proofs.Bisection.{from, from_start, from_over, from_hit, from_left, from_right, probe_low}
+use Rattle.inverse.proofs.Bisection.{probe_high, ready_left, ready_right}
+use Rattle.inverse.proofs.inside.search.Given as goal
+
+abbrev pub invariant-loop-r : goal.invariant-loop-r
+invariant-loop-r l = Ready l.table l.v l.l l.r × (from l.table l.v l.l l.r l.x ≡ searched l.table l.v l.left l.right) × (l.x ≤ 65535)
+
+abbrev pub decreases-loop-r : goal.decreases-loop-r
+decreases-loop-r l = l.r - l.l

@@ -1,0 +1,12 @@
+-- `four_reaching` meets its contract: a step halves what is left of each search. Assumes nothing.
+use native.Mathlib.Omega.{arith}
+use Rattle.least.proofs.Tables.{searchable_few}
+use Rattle.least_row.proofs.Abreast.{Searching, searching_start, searching_left, searching_room}
+use Rattle.least_row.proofs.Abreast.{searching_more, searching_end}
+use Rattle.least_row.proofs.four.four_reaching.Given as goal
+
+abbrev pub invariant-loop-left : goal.invariant-loop-left
+invariant-loop-left l = Searching l.table l.top l.values l.i l.low l.left
+
+abbrev pub decreases-loop-left : goal.decreases-loop-left
+decreases-loop-left l = l.left
