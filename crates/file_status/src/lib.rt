@@ -1,14 +1,20 @@
 // What the system knows of a file: its mode, owner and group, for a program that is to replace it.
 #![tactic(auto)]
 
-ghost use Rattle.libc.specs.Io.{Ended};
+ghost use Rattle.file_status.specs.Paths.{Ended};
 
-use libc::{PATH_MAX, types};
+use std::ffi::CStr;
+use std::fs::{Metadata, symlink_metadata};
+use std::os::unix::fs::MetadataExt;
+use std::rt::Files;
+
+// The system takes a path of at most one byte less, with a 0 after it.
+const PATH_MAX: usize = 4096;
 
 const LAST: usize = PATH_MAX - 1;
 
 // A file's mode, owner and group. Its kind is in the mode, so no file has mode 0: that stands for nothing at all.
-#[derive(Drop)]
+#[derive(Clone, Copy)]
 pub struct Status {
     pub mode: u32,
     pub owner: u32,
@@ -23,52 +29,33 @@ fn unknown() -> Status {
     }
 }
 
-// What lstat is handed to fill.
-fn blank() -> types::stat {
-    let never = types::timespec {
-        tv_sec: 0,
-        tv_nsec: 0,
-    };
-    let unused = [0i64; 3];
-    types::stat {
-        st_dev: 0,
-        st_ino: 0,
-        st_nlink: 0,
-        st_mode: 0,
-        st_uid: 0,
-        st_gid: 0,
-        __pad: 0,
-        st_rdev: 0,
-        st_size: 0,
-        st_blksize: 0,
-        st_blocks: 0,
-        st_atim: never,
-        st_mtim: never,
-        st_ctim: never,
-        __unused: unused,
-    }
-}
-
-// What a filled struct says where lstat answered so. Where the call failed, C says nothing of it.
-fn told(answer: i32, known: types::stat) -> Status {
-    if answer < 0 {
-        return unknown();
-    }
+fn told(known: &Metadata) -> Status {
     Status {
-        mode: known.st_mode,
-        owner: known.st_uid,
-        group: known.st_gid,
+        mode: known.mode(),
+        owner: known.uid(),
+        group: known.gid(),
     }
 }
 
-// Of a link it tells of the link itself, which is what a rename would replace. The borrow checker does not cover a loan
-// of a struct, so this function is proved by hand, and does no more than make the loan.
-fn status_of(path: &[u8; PATH_MAX]) -> Status
+// Of a link it tells of the link itself, which is what a rename would replace.
+fn status_of_text(files: &impl Files, path: &str) -> Status {
+    match symlink_metadata(files, path) {
+        Ok(known) => told(&known),
+        Err(_) => unknown(),
+    }
+}
+
+// The path goes up to the 0 that ends it. One that is no text in UTF-8 names no file, since std opens none by it.
+fn status_of(files: &impl Files, path: &[u8; PATH_MAX]) -> Status
     requires { Ended path.now }
 {
-    let mut known = blank();
-    let answer = libc::lstat(path, &mut known);
-    told(answer, known)
+    let Ok(name) = CStr::from_bytes_until_nul(path) else {
+        unreachable!()
+    };
+    match name.to_str() {
+        Ok(text) => status_of_text(files, text),
+        Err(_) => unknown(),
+    }
 }
 
 // As much of path as leaves room for a 0, and then zeros.
@@ -100,14 +87,14 @@ fn has_zero(text: &[u8]) -> bool {
     false
 }
 
-// What stands at a path. One that C cannot be handed whole, since it is too long or has a 0 in it, names no file, and
-// cut short it would name another.
-pub fn status_at(path: &[u8]) -> Status {
+// What stands at a path. One that the system cannot be handed whole, since it is too long or has a 0 in it, names no
+// file, and cut short it would name another.
+pub fn status_at(files: &impl Files, path: &[u8]) -> Status {
     if path.len() > LAST {
         return unknown();
     }
     if has_zero(path) {
         return unknown();
     }
-    status_of(&ended(path))
+    status_of(files, &ended(path))
 }

@@ -10,7 +10,7 @@ use groat_answers::{after_rows, before_rows};
 use groat_curves::PLACES;
 use groat_lines::{
     Codes, INPUT_END, State, Streams, Tag, advance, ends_line, is_fine, next_line, pass_line,
-    put_byte, put_problem, read_name, settled, skip_spaces,
+    put_byte, put_problem, read_name, settled, skip_spaces, streams_of,
 };
 use starting::{report, started};
 use terminal::{closed, put_hint, put_opening, put_prompt};
@@ -89,14 +89,14 @@ fn line(
 
 // A proved loop has to end, and nothing says that the input does. So it counts its turns down from a number that no
 // run uses up.
-fn main() {
-    let mut io = [0u8; 131072];
+fn main(rt: HostRuntime) {
+    let mut io = streams_of(rt);
     let mut codes = [0u64; 65537];
     let mut table = [0u16; 65537];
     let mut log = [0u64; PLACES];
     let mut floats = [0.0f32; 65537];
     let mut tag = [0u8; 131200];
-    let opening = settled(put_opening(started(), &mut io), &io);
+    let opening = settled(put_opening(started(&rt), &mut io), &io);
     let mut s = advance(opening, &mut io);
     let mut turns = u64::MAX;
     while turns > 0 && s.now != INPUT_END && !s.broken && !s.over {
@@ -111,5 +111,5 @@ fn main() {
         );
         turns -= 1;
     }
-    report(closed(s, &mut io));
+    report(closed(s, &mut io), &rt);
 }

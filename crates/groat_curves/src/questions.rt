@@ -21,7 +21,7 @@ use table::{Density, Done, Drive, Looked, Refusal, Sought};
 
 // What is asked of each item of a list, with what else its call takes. The call is an arm of `put_answer`, and how the
 // items are written one of `place_of`.
-#[derive(Drop)]
+#[derive(Clone, Copy)]
 pub enum Question {
     Lookup,
     LeastInput,

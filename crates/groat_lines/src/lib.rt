@@ -20,7 +20,8 @@ pub use problems::{
     NOT_SEVEN_NUMBERS, TOO_MANY_BYTES, faulted, is_fine, put_problem, wrong,
 };
 pub use streams::{
-    INPUT_END, State, Streams, advance, flush, opened, put, put_byte, put_decimal, put_hex, settled,
+    INPUT_END, State, Streams, advance, flush, hex_digit, host_of, opened, put, put_byte,
+    put_decimal, put_hex, settled, streams_of,
 };
 pub use words::{
     Path, ends_line, last_path, last_words, name_of, next_line, no_more_words, pass_line,

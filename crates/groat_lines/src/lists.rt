@@ -15,7 +15,7 @@ const COMMA: u16 = b',' as u16;
 const TIMES: u16 = b'*' as u16;
 
 // How far a list has been read.
-#[derive(Drop)]
+#[derive(Clone, Copy)]
 enum Stage {
     // an item comes next
     Item,
@@ -30,7 +30,7 @@ enum Stage {
 }
 
 // A list that is being read. In a run `value` comes next, and then `more` others, each `step` above the one before it.
-#[derive(Drop)]
+#[derive(Clone, Copy)]
 pub struct List {
     stage: Stage,
     value: u64,

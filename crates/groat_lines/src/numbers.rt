@@ -23,7 +23,7 @@ pub const MINUS: u16 = b'-' as u16;
 pub const COLON: u16 = b':' as u16;
 
 // What a number is for, which says how it is written and how large it may be.
-#[derive(Drop)]
+#[derive(Clone, Copy)]
 pub enum Place {
     // a position, a density, a table entry, an 8.8 number: 16 bits
     Short,

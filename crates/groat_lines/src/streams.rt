@@ -2,12 +2,20 @@
 // half of a buffer, which is filled again whenever it is used up. Output is gathered in the other half, and written
 // out when that is full and wherever `settled` is called: before the program may have to wait for input, so that
 // nobody waits for an answer. Each half uses 65,535 bytes, so that a count of them is any 16-bit number.
-ghost use Rattle.std.specs.Prelude.{◌≡◌, ◌<◌, ◌≤◌};
+ghost use Rattle.std.specs.Prelude.{◌≡◌, ◌<◌, ◌≤◌, IfOk};
 
 use crate::problems::{CANNOT_READ, LINE_TOO_LONG, wrong};
+use itoa::Buffer;
+use std::fmt::InlineText;
+use std::io::{Error, Read};
 
-// Input in the first 65,536 places, output in the others.
-pub type Streams = [u8; 131072];
+// The buffer, and the system that it is filled from and emptied to.
+#[derive(Drop)]
+pub struct Streams {
+    // input in the first 65,536 places, output in the others
+    bytes: [u8; 131072],
+    host: HostRuntime,
+}
 
 const HALF: usize = 65536;
 
@@ -23,7 +31,7 @@ const CARRIAGE_RETURN: u16 = b'\r' as u16;
 const TERMINAL_ROOM: usize = 4095;
 
 // What goes from call to call by value. The buffers themselves are lent beside it.
-#[derive(Drop)]
+#[derive(Clone, Copy)]
 pub struct State {
     // the byte of the line that is looked at, or one of the two ends
     pub now: u16,
@@ -58,6 +66,19 @@ pub struct State {
     held: u16,
     // how many bytes of output wait
     waiting: u16,
+}
+
+// The streams of a system, of which nothing has been read or written.
+pub fn streams_of(host: HostRuntime) -> Streams {
+    Streams {
+        bytes: [0u8; 131072],
+        host,
+    }
+}
+
+// The system itself, for what is no stream.
+pub fn host_of(io: &Streams) -> HostRuntime {
+    io.host
 }
 
 // Before the first byte: nothing is kept.
@@ -102,30 +123,46 @@ enum Input {
     Failed,
 }
 
-// What a read says that answered so and brought n bytes. Where it failed, standard error says why.
-fn brought(got: isize, n: u16) -> Input {
-    if got < 0 {
-        os::fail(b"groat: standard input");
-        return Input::Failed;
+// The system's reason, without the number that std puts after it.
+fn reason(told: &str) -> &str {
+    match told.rsplit_once(" (os error ") {
+        Some((before, _)) => before,
+        None => told,
     }
-    Input::Bytes(n)
+}
+
+// Says on standard error what failed and why.
+fn fail(host: HostRuntime, what: &str, why: Error) {
+    let told = InlineText::<256>::of(why);
+    let because = reason(told.as_str());
+    let _ = eprintln!(host; "groat: {what}: {because}");
+}
+
+// What a read says that brought so many bytes. Where it failed, standard error says why.
+fn brought(host: HostRuntime, got: Result<usize, Error>) -> Input
+    requires { IfOk got (λ n. n ≤ 65535) }
+{
+    match got {
+        Ok(n) => Input::Bytes(n as u16),
+        Err(why) => {
+            fail(host, "standard input", why);
+            Input::Failed
+        }
+    }
 }
 
 // Reads into the first 65,535 places.
-fn read_into(all: &mut [u8]) -> Input {
-    if all.len() < 65535 {
-        return Input::Failed;
-    }
-    let part = &mut all[0..65535];
-    let got = libc::read(libc::STDIN_FILENO, part);
-    brought(got, io::count(got, part) as u16)
+fn read_into(io: &mut Streams) -> Input {
+    let mut input = io.host.stdin();
+    let got = input.read(&mut io.bytes[0..65535]);
+    brought(io.host, got)
 }
 
 // Whether a line that a terminal brought may have been cut. It comes by one read, with its line end after it, unless a
 // person passes its beginning on with Ctrl-D.
 fn is_cut(io: &Streams, held: usize) -> bool {
     if held == TERMINAL_ROOM {
-        return io[TERMINAL_ROOM - 1] != b'\n';
+        return io.bytes[TERMINAL_ROOM - 1] != b'\n';
     }
     held > TERMINAL_ROOM
 }
@@ -180,7 +217,7 @@ fn after_return(s: State, io: &mut Streams) -> State {
         return looking_at(here, INPUT_END);
     }
     let at = here.at;
-    if io[wide(at)] == b'\n' {
+    if io.bytes[wide(at)] == b'\n' {
         return looking_at(passed(here), LINE_END);
     }
     looking_at(here, CARRIAGE_RETURN)
@@ -193,7 +230,7 @@ pub fn advance(s: State, io: &mut Streams) -> State {
         return looking_at(here, INPUT_END);
     }
     let at = here.at;
-    let byte = io[wide(at)];
+    let byte = io.bytes[wide(at)];
     if byte == b'\n' {
         return looking_at(passed(here), LINE_END);
     }
@@ -204,12 +241,14 @@ pub fn advance(s: State, io: &mut Streams) -> State {
 }
 
 // Whether a text could be written. Where it could not, standard error says why.
-fn sent(text: &[u8]) -> bool {
-    if io::write_all(libc::STDOUT_FILENO, text) {
-        return true;
+fn sent(host: HostRuntime, text: &[u8]) -> bool {
+    match host.write_all(text) {
+        Ok(()) => true,
+        Err(why) => {
+            fail(host, "standard output", why);
+            false
+        }
     }
-    os::fail(b"groat: standard output");
-    false
 }
 
 fn emptied(s: State, broken: bool) -> State
@@ -229,8 +268,7 @@ pub fn flush(s: State, io: &Streams) -> State
         return emptied(s, true);
     }
     let end = HALF + wide(s.waiting);
-    let text: &[u8] = io;
-    emptied(s, !sent(&text[HALF..end]))
+    emptied(s, !sent(io.host, &io.bytes[HALF..end]))
 }
 
 fn has_line_end(text: &[u8]) -> bool {
@@ -249,10 +287,9 @@ fn holds_line(s: State, io: &Streams) -> bool {
     if s.at >= s.held {
         return false;
     }
-    let text: &[u8] = io;
     let from = wide(s.at);
     let to = wide(s.held);
-    has_line_end(&text[from..to])
+    has_line_end(&io.bytes[from..to])
 }
 
 // With nothing waiting to be written, unless a whole line is at hand: many short lines are answered by few writes, and
@@ -277,7 +314,7 @@ fn roomy(s: State, io: &Streams) -> State
 pub fn put_byte(s: State, io: &mut Streams, byte: u8) -> State {
     let here = roomy(s, io);
     let at = here.waiting;
-    io[HALF + wide(at)] = byte;
+    io.bytes[HALF + wide(at)] = byte;
     let mut after = here;
     after.waiting = at + 1;
     after
@@ -294,14 +331,34 @@ pub fn put(s: State, io: &mut Streams, text: &[u8]) -> State {
 }
 
 pub fn put_decimal(s: State, io: &mut Streams, n: u64) -> State {
-    let mut digits = [0u8; 20];
-    let k = io::decimal(n, &mut digits);
-    put(s, io, &digits[..k])
+    let mut digits = Buffer::new();
+    put(s, io, digits.format(n).as_bytes())
+}
+
+// How many hexadecimal digits a number is written with: as many as `width` says, or as it has where they are more.
+fn hex_width(n: u64, width: usize) -> usize
+    ensures { result ≤ 16 }
+{
+    let needed = (67 - n.leading_zeros() as usize) / 4;
+    width.max(needed).clamp(1, 16)
+}
+
+// The last hexadecimal digit of a number.
+pub fn hex_digit(n: u64) -> u8 {
+    let digit = (n % 16) as u8;
+    if digit < 10 {
+        return b'0' + digit;
+    }
+    b'a' - 10 + digit
 }
 
 // As many hexadecimal digits as `width` says.
 pub fn put_hex(s: State, io: &mut Streams, n: u64, width: usize) -> State {
-    let mut digits = [0u8; 16];
-    let k = io::hex(n, width, &mut digits);
-    put(s, io, &digits[..k])
+    let mut after = s;
+    let mut left = hex_width(n, width);
+    while left > 0 {
+        left -= 1;
+        after = put_byte(after, io, hex_digit(n >> (4 * left)));
+    }
+    after
 }

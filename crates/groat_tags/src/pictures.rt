@@ -1,8 +1,8 @@
 // The table drawn: as lines of text, and as a picture in a file.
-use crate::files::{begin, finished, not_begun, path_of};
+use crate::files::{Draft, begin, finished, not_begun, path_of, written};
 use groat_answers::{at_row, bytes, entries, put_refused};
 use groat_lines::{
-    BAD_TITLE, State, Streams, is_fine, last_words, put, put_byte, read_path, wrong,
+    BAD_TITLE, Path, State, Streams, host_of, is_fine, last_words, put, put_byte, read_path, wrong,
 };
 use table::Refusal;
 
@@ -72,37 +72,48 @@ struct Drawn {
     bytes: usize,
 }
 
-fn draw_piece(fd: i32, table: &[u16], title: &[u8], k: usize, before: usize) -> Drawn {
+fn draw_piece(draft: &mut Draft, table: &[u16], title: &[u8], k: usize, before: usize) -> Drawn {
     let mut out = [0u8; 512];
     let n = picture::svg_piece(table, title, k, &mut out);
     Drawn {
-        fine: io::write_all(fd, drawn_of(&out, n)),
+        fine: written(draft, drawn_of(&out, n)),
         bytes: std::num::wrapping_add_usize(before, n),
     }
 }
 
-fn draw(fd: i32, table: &[u16], title: &[u8], pieces: usize) -> Drawn {
+fn draw(draft: &mut Draft, table: &[u16], title: &[u8], pieces: usize) -> Drawn {
     let mut drawn = Drawn {
         fine: true,
         bytes: 0,
     };
     let mut k = 0;
     while k < pieces && drawn.fine {
-        drawn = draw_piece(fd, table, title, k, drawn.bytes);
+        drawn = draw_piece(draft, table, title, k, drawn.bytes);
         k += 1;
     }
     drawn
 }
 
+// Draws a picture to a draft that could be made, and puts it in its place.
+fn draw_draft(
+    s: State,
+    io: &mut Streams,
+    mut draft: Draft,
+    path: &[u8],
+    name: &Path,
+    title: &[u8],
+    table: &[u16],
+) -> State {
+    let drawn = draw(&mut draft, table, title, picture::svg_pieces(table));
+    finished(s, io, draft, drawn.fine, drawn.bytes, path, name)
+}
+
 fn draw_to(s: State, io: &mut Streams, path: &[u8], title: &[u8], table: &[u16]) -> State {
     let mut name = [0u8; 4096];
-    let draft = begin(path, &mut name);
-    let fd = draft.fd;
-    if fd < 0 {
-        return not_begun(s, draft);
+    match begin(host_of(io), path, &mut name) {
+        Ok(draft) => draw_draft(s, io, draft, path, &name, title, table),
+        Err(why) => not_begun(s, why),
     }
-    let drawn = draw(fd, table, title, picture::svg_pieces(table));
-    finished(s, io, draft, drawn.fine, drawn.bytes, path, &name)
 }
 
 // Draws a table that can be drawn under a title that may stand in a picture.

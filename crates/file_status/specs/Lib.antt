@@ -1,0 +1,2 @@
+-- `Paths`: a path as the system is handed it.
+pub mod Paths
