@@ -1,17 +1,19 @@
 -- The bit pattern of the f32 nearest to an f64: the quotient that `nearest_quotient` works out by a sum, and `narrow`
 -- of the f64's fields in each range of the exponent, in the order in which `magnitude` tests them. Assumes nothing.
 use mathlib.Core.Path.{◌≡◌, refl, sym, ap, ap₂, ◌∙◌, subst}
-use mathlib.Core.Bool.{Bool, true, false, not, cond}
+use mathlib.Core.Bool.{Bool, true, false, not, cond, ◌&&◌}
 use mathlib.Core.Logic.{inl, inr}
 use Prim.Native.Nat.{ℕ, zero, suc, ◌+◌, ◌-◌, ◌*◌, ◌/◌, ◌%◌, ◌^◌, ◌≤◌, ◌<◌, zero-le, compare}
 use Prim.Native.Nat.{Ordering}
 use native.Mathlib.Nat.{le_trans, le_of_eq, le-add_right, lt_of_lt_of_le, eq-or-lt_of_le, suc-sub-suc, one-mul}
 use native.Mathlib.Nat.{mul_assoc, mul-le-mul_left, mul-le-mul, mod-lt, add-mul}
-use native.Mathlib.Nat.{div-add-mod', div-eq_of_lt-le, pow-suc, mul-mod_left, mul-add-div_right, mul-add-mod_self_right}
+use native.Mathlib.Nat.{div-add-mod', div-eq_of_lt-le, mul-add-div_right, mul-add-mod_self_right}
+use native.Mathlib.Nat.{le_of_suc-le-suc, div-lt_iff_lt-mul}
+use Rattle.std.proofs.Common.{true≢false, eqb→eq}
 use native.Mathlib.Omega.{arith}
 use lib.Dec.{T, leb, ltb, eqb, lit<, lit≤}
 use lib.Arith.{le→nltb}
-use lib.Pow.{pow-add, pow_pos, pow_mono, shl_exact, mod-mod-pow}
+use lib.Pow.{pow-add, pow_pos, pow_mono, shl_exact}
 use borrow.Author.Tests.{ltb-true, ltb-false, ne_eqb}
 use lib.Ieee.{Float, nan, inf, fin, binary32, binary64, up, down, odd, round, fits, is_nan, nan_bits, ne, div, of_fields}
 use lib.Ieee.{nearest, of_bits, to_bits}
@@ -275,19 +277,16 @@ module _ (b : ℕ) where
       let room : 1 + (926 - e) ≤ 64 = omega arith in
       shl_exact 1 (926 - e) 64 (lit< tt) room ∙ one-mul (2 ^ (926 - e))
 
-  abbrev Asked : ℕ → Type 0
-  Asked d = (2 ≤ d) × ((d % 2 ≡ 0) × ((d ≤ 4611686018427387904) × (4503599627370496 + t < 4611686018427387904)))
-
-  pub low_asks : 0x3690_0000_0000_0000 ≤ b → b < 0x3810_0000_0000_0000 → Asked shift
-  low_asks a h =
-      let more : 1 ≤ 926 - e = omega arith in
-      let few : 926 - e ≤ 53 = omega arith in
-      subst Asked (sym (shifted (omega arith)))
-      (pow_mono more, (even (926 - e) more, (le_trans (pow_mono few) (lit≤ tt), omega arith)))
-    where
-      even : (k : ℕ) → 1 ≤ k → 2 ^ k % 2 ≡ 0
-      even zero h = absurd (omega arith)
-      even (suc k) h = ap (λ (z : ℕ). z % 2) (pow-suc 2 k) ∙ mul-mod_left (2 ^ k) 2
+  pub low_asks : 0x3690_0000_0000_0000 ≤ b
+      → (0 < shift) × ((shift ≤ 4611686018427387904) × (4503599627370496 + t < 4611686018427387904))
+  low_asks a =
+      let few : 926 - e ≤ 53 = omega arith in (
+        subst (λ (z : ℕ). 0 < z) (sym (shifted (omega arith))) (pow_pos (926 - e)),
+        (
+          subst (λ (z : ℕ). z ≤ 4611686018427387904) (sym (shifted (omega arith))) (le_trans (pow_mono few) (lit≤ tt)),
+          omega arith,
+        ),
+      )
 
   pub low_gives : (r : ℕ) → 0x3690_0000_0000_0000 ≤ b → b < 0x3810_0000_0000_0000
       → r ≡ closest (4503599627370496 + t) shift → Pattern r
@@ -309,28 +308,38 @@ module _ (x : Float) (F : T (fits binary64 x)) (N : ne x x ≡ false) where
   abbrev bits : ℕ
   bits = to_bits binary64 x
 
-  abbrev unsigned : ℕ
-  unsigned = bits % 9223372036854775808
+  abbrev exponent : ℕ
+  exponent = bits % 9223372036854775808 / 4503599627370496
+
+  abbrev digits : ℕ
+  digits = bits % 4503599627370496
 
   of_bits_lem : of_bits binary64 bits ≡ x
   of_bits_lem = of_bits-to_bits binary64 x F
 
-  -- without its sign it is at most the infinity's
-  pub pattern_asked : unsigned ≤ 9218868437227405312
-  pattern_asked =
-      ltb-false 9218868437227405312 unsigned
-      (sym (nan_bits_above binary64 bits) ∙ nan_bits_is binary64 bits ∙ ap is_nan of_bits_lem
-      ∙ is_false (is_nan x) (not_nan x N))
+  -- all ones in the exponent's field are an infinity's, with no digits
+  no_digits : exponent ≡ 2047 → digits ≡ 0
+  unfolding nan_bits
+  no_digits e =
+      go (eqb digits 0) (eqb→eq digits 0) (sym (ap (λ (z : ℕ). eqb z 2047 && not (eqb digits 0)) e)
+      ∙ nan_bits_is binary64 bits ∙ ap is_nan of_bits_lem ∙ is_false (is_nan x) (not_nan x N))
+    where
+      go : (u : Bool) → (T u → digits ≡ 0) → (true && not u) ≡ false → digits ≡ 0
+      go true k z = k tt
+      go false k z = absurd (true≢false z)
 
-  pub narrowed : (s : Bool) (m : ℕ) → leb 9223372036854775808 bits ≡ s
-      → ((s : Bool) → Shown (unsigned / 4503599627370496) (unsigned % 4503599627370496) m s)
+  pub fields_asked : (exponent ≤ 2047) × ((digits < 4503599627370496) × (exponent ≡ 2047 → digits ≡ 0))
+  fields_asked = (
+    le_of_suc-le-suc ((div-lt_iff_lt-mul (pow_pos 52)).1 (mod-lt bits (pow_pos 63))),
+    (mod-lt bits (pow_pos 52), no_digits),
+  )
+
+  pub narrowed : (s : Bool) (m : ℕ) → leb 9223372036854775808 bits ≡ s → ((s : Bool) → Shown exponent digits m s)
       → NarrowPromise x (of_bits binary32 (cond s 2147483648 0 + m))
   unfolding of_bits
   narrowed s m e h =
-      let digits : unsigned % 4503599627370496 ≡ bits % 4503599627370496 = mod-mod-pow bits 11 52 in
       record {
-        value = h s ∙ ap₂ (λ (t : Bool) (d : ℕ). narrow (of_fields binary64 t (unsigned / 4503599627370496) d)) (sym e)
-            digits
+        value = h s ∙ ap (λ (t : Bool). narrow (of_fields binary64 t exponent digits)) (sym e)
             ∙ ap narrow of_bits_lem;
       }
 

@@ -11,10 +11,25 @@ ghost use Rattle.rounding.specs.Size.{MinPromise, AbsPromise};
 
 pub mod inside; // inside.rt: floor and ceil
 
-// n / d to the nearest whole number, a tie to the even one, for an even d. Half of d, less one, and one more where the
-// quotient is odd, are added first: the sum reaches the next multiple of d exactly where the quotient goes up. A test
-// would go by digits that are as good as random.
+// n / d to the nearest whole number, a tie to the even one. One test decides, so that no branch hangs on digits that
+// are as good as random.
 fn nearest_quotient(n: u64, d: u64) -> u64
+    requires some { 0 < d }
+    requires d_small { d ≤ 0x4000_0000_0000_0000 }
+    requires n_small { n < 0x4000_0000_0000_0000 }
+    ensures { result ≡ closest n d }
+{
+    let q = n / d;
+    let twice = n % d * 2;
+    if d < twice + q % 2 {
+        return q + 1;
+    }
+    q
+}
+
+// The same without a test, for an even d. Half of d, less one, and one more where the quotient is odd, are added first:
+// the sum reaches the next multiple of d exactly where the quotient goes up.
+fn nearest_even_quotient(n: u64, d: u64) -> u64
     requires some { 2 ≤ d }
     requires even { d % 2 ≡ 0 }
     requires d_small { d ≤ 0x4000_0000_0000_0000 }
@@ -28,7 +43,7 @@ fn nearest_quotient(n: u64, d: u64) -> u64
 // Its upper bits are the exponent, which is 896 above an f32's of the same number (0x380), and its digits are 29 more.
 // From the exponent 1151 (0x47f) on the number is too large, up to 872 it is less than half of the smallest f32, and
 // from 873 (0x369) to 896 the f32 is subnormal, with one digit less for each step down.
-fn magnitude(bits: u64) -> u64
+fn magnitude_of(bits: u64) -> u64
     requires { bits ≤ 0x7ff0_0000_0000_0000 }
     ensures in_range { result ≤ 0x7f80_0000 }
     ensures nearest { ((s : Bool) → of_bits binary32 (cond s 0x8000_0000 0 + result)
@@ -39,7 +54,7 @@ fn magnitude(bits: u64) -> u64
     }
     if bits >= 0x3810_0000_0000_0000 {
         // exponent and digits as one number: digits that are rounded up to 2^24 carry into the exponent, as they should
-        return nearest_quotient(bits - 0x3800_0000_0000_0000, 0x2000_0000);
+        return nearest_even_quotient(bits - 0x3800_0000_0000_0000, 0x2000_0000);
     }
     if bits >= 0x3690_0000_0000_0000 {
         return nearest_quotient(
@@ -50,6 +65,18 @@ fn magnitude(bits: u64) -> u64
     0
 }
 
+// The same of the f64 that has `exponent` in its exponent's field and `digits` in the one below.
+fn magnitude(exponent: u64, digits: u64) -> u64
+    requires exponent_fits { exponent ≤ 2047 }
+    requires digits_fit { digits < 0x10_0000_0000_0000 }
+    requires no_nan { (exponent ≡ 2047 → digits ≡ 0) }
+    ensures in_range { result ≤ 0x7f80_0000 }
+    ensures nearest { ((s : Bool) → of_bits binary32 (cond s 0x8000_0000 0 + result)
+        ≡ narrow (of_fields binary64 s exponent digits)) }
+{
+    magnitude_of(exponent * 0x10_0000_0000_0000 + digits)
+}
+
 // Rust's `x as f32`.
 pub fn nearest_f64_to_f32(x: f64) -> f32
     ensures { NarrowPromise x result }
@@ -58,7 +85,9 @@ pub fn nearest_f64_to_f32(x: f64) -> f32
         return 0.0 / 0.0;
     }
     let bits = f64::to_bits(x);
-    let pattern = magnitude(bits % 0x8000_0000_0000_0000);
+    let exponent = bits % 0x8000_0000_0000_0000 / 0x10_0000_0000_0000;
+    let digits = bits % 0x10_0000_0000_0000;
+    let pattern = magnitude(exponent, digits);
     if bits >= 0x8000_0000_0000_0000 {
         return f32::from_bits((0x8000_0000 + pattern) as u32);
     }

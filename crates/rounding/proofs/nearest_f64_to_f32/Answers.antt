@@ -1,5 +1,5 @@
--- `nearest_f64_to_f32` meets its promise: the pattern is the sign's bit and what `magnitude` makes of x's own pattern
--- without its sign. Assumes nothing.
+-- `nearest_f64_to_f32` meets its promise: the pattern is the sign's bit and what `magnitude` makes of the two fields,
+-- which are x's own. Assumes nothing.
 use borrow.Author.Tests.{le-leb, lt-leb}
 use mathlib.Core.Path.{sym, subst}
 use mathlib.Core.Bool.{true, false, not}
@@ -9,7 +9,7 @@ use lib.Dec.{T}
 use lib.Ieee.{binary32, binary64, fits, nan_bits, of_bits, to_bits}
 use Rattle.ieee.proofs.Tests.{not_nan}
 use Rattle.rounding.specs.Nearest.{NarrowPromise}
-use Rattle.rounding.proofs.Narrow.{pattern_asked, narrowed, narrow_nan, no_nan_pattern}
+use Rattle.rounding.proofs.Narrow.{fields_asked, narrowed, narrow_nan, no_nan_pattern}
 use Rattle.rounding.proofs.nearest_f64_to_f32.Goals as goal
 
 pub returns-then-x : goal.returns-then-x
@@ -20,10 +20,10 @@ pub float_to_bits-bits : goal.float_to_bits-bits
 float_to_bits-bits c =
     not_nan c.args.x c.if-x.false
 
-pub magnitude-pattern-requires : goal.magnitude-pattern-requires
-magnitude-pattern-requires c =
+pub magnitude-pattern-requires-clause-no_nan : goal.magnitude-pattern-requires-clause-no_nan
+magnitude-pattern-requires-clause-no_nan c =
     let held : T (fits binary64 c.args.x) = subst T (sym c.well_formed.0.1) tt in
-    pattern_asked c.args.x held c.if-x.false
+    (fields_asked c.args.x held c.if-x.false).1.1
 
 pub float_from_bits-result : goal.float_from_bits-result
 float_from_bits-result c =

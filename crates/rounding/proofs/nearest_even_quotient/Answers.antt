@@ -1,0 +1,7 @@
+-- `nearest_even_quotient` meets its contract: the sum is a law of `proofs/Narrow.antt`. Assumes nothing.
+use Rattle.rounding.proofs.Narrow.{by_sum}
+use Rattle.rounding.proofs.nearest_even_quotient.Goals as goal
+
+pub returns : goal.returns
+returns c =
+    by_sum c.args.n c.args.d c.requires.some c.requires.even
