@@ -14,7 +14,7 @@ mod four;
 
 // What a row holds for v: its least input, or one past the last position where there is none. Entry `next` is the first
 // that is not below v, where there is one.
-fn row_position(table: &[u16], top: usize, v: u16, next: usize) -> u32
+fn row_position_at(table: &[u16], top: usize, v: u16, next: usize) -> u32
     requires searchable { Searchable table.now top }
     requires first_reaching { v ≤ last_entry table.now → FirstReaching table.now top v next }
     ensures { result ≡ row_position table.now v }
@@ -23,6 +23,14 @@ fn row_position(table: &[u16], top: usize, v: u16, next: usize) -> u32
         return 65536;
     }
     least_at(table, top, v, next) as u32
+}
+
+// The same, with that entry searched for.
+fn row_position(table: &[u16], top: usize, v: u16) -> u32
+    requires { Searchable table.now top }
+    ensures { result ≡ row_position table.now v }
+{
+    row_position_at(table, top, v, first_reaching(table, top, v))
 }
 
 // The same for each value, four at a time while there are four.
@@ -37,13 +45,13 @@ fn fill_least_row(table: &[u16], values: &[u16], out: &mut [u32])
         let next = four_reaching(table, top, values, i);
         let mut j = 0;
         while j < 4 {
-            out[i + j] = row_position(table, top, values[i + j], next[j]);
+            out[i + j] = row_position_at(table, top, values[i + j], next[j]);
             j += 1;
         }
         i += 4;
     }
     while i < values.len() {
-        out[i] = row_position(table, top, values[i], first_reaching(table, top, values[i]));
+        out[i] = row_position(table, top, values[i]);
         i += 1;
     }
 }

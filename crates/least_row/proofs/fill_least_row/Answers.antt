@@ -20,7 +20,7 @@ loop-j-init c =
 pub loop-j-preserved : goal.loop-j-preserved
 loop-j-preserved c =
     let l = c.loop-j.invariant in
-    let more = written_more l.0 (omega arith) c.row_position.ensures in
+    let more = written_more l.0 (omega arith) c.row_position_at.ensures in
     (written_at more (omega arith), (omega arith, l.1.1))
 
 pub loop-i-preserved : goal.loop-i-preserved
@@ -30,7 +30,7 @@ loop-i-preserved c =
 pub loop-i-2-preserved : goal.loop-i-2-preserved
 loop-i-2-preserved c =
     let l = c.loop-i-2.invariant in
-    written_more l (omega arith) c.row_position-in-loop-i-2.ensures
+    written_more l (omega arith) c.row_position.ensures
 
 pub returns : goal.returns
 returns c =
@@ -39,11 +39,8 @@ returns c =
 pub four_reaching-next-requires-clause-searchable : goal.four_reaching-next-requires-clause-searchable
 four_reaching-next-requires-clause-searchable c = by_last c.requires.passed
 
-pub row_position-requires-clause-searchable : goal.row_position-requires-clause-searchable
-row_position-requires-clause-searchable c = by_last c.requires.passed
+pub row_position_at-requires-clause-searchable : goal.row_position_at-requires-clause-searchable
+row_position_at-requires-clause-searchable c = by_last c.requires.passed
 
-pub first_reaching-requires : goal.first_reaching-requires
-first_reaching-requires c = by_last c.requires.passed
-
-pub row_position-requires-in-loop-i-2-clause-searchable : goal.row_position-requires-in-loop-i-2-clause-searchable
-row_position-requires-in-loop-i-2-clause-searchable c = by_last c.requires.passed
+pub row_position-requires : goal.row_position-requires
+row_position-requires c = by_last c.requires.passed
