@@ -239,8 +239,8 @@ bg_write_para_one = one-both (λ κs a e f l m. para-writer.write_one)
 pub part_carried_one : {tag : Bor (List ℕ)} {r s : Part} → PartCarried tag r → PartCarried tag s → r ≡ s
 part_carried_one {tag} {r} {s} x y =
     let same = part_one x.kept y.kept in
-    let place : past r.start (tag .ref_ptr) ≡ past s.start (tag .ref_ptr) = sym x.start ∙ same.2 ∙ y.start in
-    let after : r.start + tag .ref_ptr .1 ≡ s.start + tag .ref_ptr .1 = ap (λ (p : ℕ × ℕ). p.1) place in
+    let place : past r.start tag.ref_ptr ≡ past s.start tag.ref_ptr = sym x.start ∙ same.2 ∙ y.start in
+    let after : r.start + tag.ref_ptr.1 ≡ s.start + tag.ref_ptr.1 = ap (λ (p : ℕ × ℕ). p.1) place in
     let start : r.start ≡ s.start = omega arith in
     let len : r.len ≡ s.len = x.len ∙ ap length same.1 ∙ sym y.len in
     λ i. record { refusal = same.0 i; start = start i; len = len i }

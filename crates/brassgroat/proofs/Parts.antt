@@ -42,7 +42,7 @@ module _ {tag part : Bor (List ℕ)} {why : ℕ} (kept : PartPromise tag part wh
         len = refl;
       }
     where
-      by : (v : Verdict) → why ≡ number_in v → part.ptr ≡ if_granted v (past 12 tag.ptr) tag.ptr
-          → part.ptr ≡ past 12 tag.ptr
+      by : (v : Verdict) → why ≡ number_in v → part.ref_ptr ≡ if_granted v (past 12 tag.ref_ptr) tag.ref_ptr
+          → part.ref_ptr ≡ past 12 tag.ref_ptr
       by granted e place = place
       by (refused w) e place = absurd (omega (arith, number_above w))

@@ -15,5 +15,5 @@ pub record Carried {L R : Type 0} (places : L → R) (promise : L → Type 0) (r
 pub record PartCarried (tag : Bor (List ℕ)) (r : Part) : Type 0 where
   pub part : Bor (List ℕ)
   pub kept : PartPromise tag part r.refusal
-  pub start : part.ptr ≡ past r.start tag.ref_ptr
+  pub start : part.ref_ptr ≡ past r.start tag.ref_ptr
   pub len : r.len ≡ length part.now

@@ -2,7 +2,7 @@
 -- in the function's module `Reads`, which takes the lifetimes, the parameters, the answer, and the parameters at the
 -- exit. Assumes nothing.
 use Rattle.std.specs.Prelude.{◌≡◌}
-use Rattle.std.specs.Borrow.{Bor}
+use Rattle.std.specs.Borrow.{MutBor}
 
 module _ {K A R E : Type 0} (Post : K → A → R → E → Type 0) where
   -- Two answers that keep it are one.
@@ -27,11 +27,11 @@ module _ {K A R E : Type 0} (Post : K → A → R → E → Type 0) where
       (r ≡ s) × (one e ≡ one f) × (two e ≡ two f) × (three e ≡ three f)
 
 -- What the first, second or third parameter holds at the exit.
-abbrev pub first : {S E : Type 0} → Bor S × E → S
+abbrev pub first : {S E : Type 0} → MutBor S × E → S
 first e = e.0.now
 
-abbrev pub second : {P S E : Type 0} → P × (Bor S × E) → S
+abbrev pub second : {P S E : Type 0} → P × (MutBor S × E) → S
 second e = e.1.0.now
 
-abbrev pub third : {P Q S E : Type 0} → P × (Q × (Bor S × E)) → S
+abbrev pub third : {P Q S E : Type 0} → P × (Q × (MutBor S × E)) → S
 third e = e.1.1.0.now

@@ -15,7 +15,7 @@ use plain_answers::inside::{as_count, number_of_done};
 
 // Which part of a tag its entries' bytes are: a slice does not cross back, so where it starts and how long it is.
 #[repr(C)]
-#[derive(Drop)]
+#[derive(Clone, Copy)]
 pub struct Part {
     pub refusal: u32,
     pub start: usize,

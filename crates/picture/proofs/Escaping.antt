@@ -12,7 +12,7 @@ use lib.Dec.{ltb, leb, eqb}
 use Rattle.table.specs.Choice.{pick, both}
 use Rattle.table.proofs.Choice.{never, both_left, both_right, below?, same?}
 use Rattle.picture.specs.declared.title.Next.{Next}
-use Rattle.picture.specs.Text.{total, escaped_width, escaped_length}
+use Rattle.picture.specs.Text.{escaped_width, escaped_length}
 use Rattle.picture.specs.Title.{more_after, tails, after_lead, after_first, after_tail, after_edge, after, after_all}
 use Rattle.picture.specs.Title.{is_whole, begins, characters_in, is_title, is_shown}
 

@@ -1,5 +1,4 @@
 -- How a column's reach, its lowest and highest density, tells which rows of the plot the curve passes. Assumes nothing.
-use mathlib.Core.Path.{◌≡◌}
 use mathlib.Core.Bool.{false}
 use mathlib.Core.List.{List}
 use Prim.Native.Nat.{ℕ, ◌≤◌, ◌<◌}

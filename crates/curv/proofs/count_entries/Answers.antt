@@ -1,7 +1,6 @@
 -- `count_entries` meets its contract: each answer is that of the first test that fails, past those that hold. Assumes
 -- nothing.
 use native.Mathlib.Omega.{arith}
-use borrow.Author.Rules.{rules}
 use Rattle.curv.proofs.Checks.{short, unsigned, unreserved, many, total_right, total_other, unwhole, right}
 use Rattle.curv.proofs.Promises.{count_refused, count_granted}
 use Rattle.curv.proofs.count_entries.Goals as goal

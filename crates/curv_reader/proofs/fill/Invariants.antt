@@ -1,9 +1,7 @@
 -- `fill` meets its contract: the loop fills the buffer with the tag's entries. Assumes nothing.
-use mathlib.Core.Path.{refl}
 use Prim.Native.Nat.{◌-◌}
-use native.Mathlib.Omega.{arith}
 use lib.ListN.{length}
-use Rattle.table.proofs.Fill.{Filling, filling_start, filling_more, filling_done}
+use Rattle.table.proofs.Fill.{Filling}
 use Rattle.curv.specs.Tag.{entry_at}
 use Rattle.curv_reader.proofs.fill.Given as goal
 

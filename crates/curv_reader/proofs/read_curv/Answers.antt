@@ -2,9 +2,7 @@
 -- nothing.
 use mathlib.Core.Path.{refl}
 use native.Mathlib.Omega.{arith}
-use Rattle.curv.proofs.Promises.{refused_count, granted_count}
-use Rattle.curv_reader.proofs.Promises.{read_refused, read_misfit, read_granted}
-use borrow.Author.Rules.{rules}
+use Rattle.curv.proofs.Promises.{granted_count}
 use Rattle.curv_reader.proofs.read_curv.Goals as goal
 
 pub fill-requires : goal.fill-requires

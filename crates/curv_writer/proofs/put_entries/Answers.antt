@@ -1,9 +1,6 @@
 -- `put_entries` meets its contract: the loop stores the entries after the first twelve bytes. Assumes nothing.
-use Prim.Native.Nat.{◌-◌}
 use native.Mathlib.Omega.{arith}
-use borrow.Author.Rules.{rules}
-use lib.ListN.{length}
-use Rattle.icc.proofs.Words.{two_bytes, Storing, storing_start, storing_more, storing_done}
+use Rattle.icc.proofs.Words.{two_bytes, storing_start, storing_more}
 use Rattle.curv_writer.proofs.put_entries.Goals as goal
 
 pub loop-i-init : goal.loop-i-init

@@ -1,8 +1,7 @@
 -- `put_entries` meets its contract: the loop stores the entries after the first twelve bytes. Assumes nothing.
 use Prim.Native.Nat.{◌-◌}
-use native.Mathlib.Omega.{arith}
 use lib.ListN.{length}
-use Rattle.icc.proofs.Words.{two_bytes, Storing, storing_start, storing_more, storing_done}
+use Rattle.icc.proofs.Words.{two_bytes, Storing}
 use Rattle.curv_writer.proofs.put_entries.Given as goal
 
 abbrev pub invariant-loop-i : goal.invariant-loop-i

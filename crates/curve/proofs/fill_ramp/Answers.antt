@@ -1,10 +1,7 @@
 -- `fill_ramp` meets its contract: the loop fills the table with the straight curve of its own length. Assumes nothing.
 use mathlib.Core.Path.{refl}
-use Prim.Native.Nat.{◌-◌}
 use native.Mathlib.Omega.{arith}
-use borrow.Author.Rules.{rules}
-use Rattle.table.proofs.Fill.{Filling, filling_start, filling_more, filling_done}
-use Rattle.curve.specs.Ramp.{ramp}
+use Rattle.table.proofs.Fill.{filling_start, filling_more, filling_done}
 use Rattle.curve.proofs.fill_ramp.Goals as goal
 
 pub loop-i-init : goal.loop-i-init

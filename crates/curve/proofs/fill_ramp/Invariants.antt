@@ -1,8 +1,6 @@
 -- `fill_ramp` meets its contract: the loop fills the table with the straight curve of its own length. Assumes nothing.
-use mathlib.Core.Path.{refl}
 use Prim.Native.Nat.{◌-◌}
-use native.Mathlib.Omega.{arith}
-use Rattle.table.proofs.Fill.{Filling, filling_start, filling_more, filling_done}
+use Rattle.table.proofs.Fill.{Filling}
 use Rattle.curve.specs.Ramp.{ramp}
 use Rattle.curve.proofs.fill_ramp.Given as goal
 

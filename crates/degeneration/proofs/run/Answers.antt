@@ -1,9 +1,6 @@
 -- `run` meets its contract. The invariant: all entries passed so far are in the run. Assumes nothing.
-use mathlib.Core.Path.{◌∙◌, sym}
-use Prim.Native.Nat.{◌-◌}
-use native.Mathlib.Omega.{arith}
-use lib.ListN.{length}
-use Rattle.degeneration.proofs.Runs.{Passed, passed_start, passed_on, passed_stop, passed_end}
+use mathlib.Core.Path.{◌∙◌}
+use Rattle.degeneration.proofs.Runs.{passed_stop, passed_end}
 use Rattle.degeneration.proofs.run.Goals as goal
 
 pub returns-then-entry_from-first : goal.returns-then-entry_from-first

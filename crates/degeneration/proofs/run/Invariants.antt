@@ -1,9 +1,7 @@
 -- `run` meets its contract. The invariant: all entries passed so far are in the run. Assumes nothing.
-use mathlib.Core.Path.{◌∙◌, sym}
 use Prim.Native.Nat.{◌-◌}
-use native.Mathlib.Omega.{arith}
 use lib.ListN.{length}
-use Rattle.degeneration.proofs.Runs.{Passed, passed_start, passed_on, passed_stop, passed_end}
+use Rattle.degeneration.proofs.Runs.{Passed}
 use Rattle.degeneration.proofs.run.Given as goal
 
 abbrev pub invariant-loop-i : goal.invariant-loop-i

@@ -1,5 +1,4 @@
 -- `stands_still` meets its contract: the definition at each way out, by the tests that lead there. Assumes nothing.
-use native.Mathlib.Omega.{arith}
 use Rattle.degeneration.proofs.Promises.{still_short, still_first, still_last}
 use Rattle.degeneration.proofs.stands_still.Goals as goal
 

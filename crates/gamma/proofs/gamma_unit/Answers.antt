@@ -2,7 +2,6 @@
 use mathlib.Core.Path.{refl}
 use Rattle.gamma.specs.Gamma.{gamma_unit}
 use Rattle.gamma.proofs.Laws.{unit_low, unit_high}
-use borrow.Author.Rules.{rules}
 use Rattle.gamma.proofs.gamma_unit.Goals as goal
 
 pub returns : goal.returns

@@ -1,12 +1,10 @@
 -- `lut_interp_linear_gamma_impl` meets its promise, rung by rung. Assumes nothing.
 use mathlib.Core.Path.{◌≡◌}
 use mathlib.Core.Bool.{true}
-use borrow.Author.Tests.{lt-ltb, le-ltb}
 use lib.ListN.{length}
 use Rattle.table.specs.Sizes.{within, sized, spanned}
-use Rattle.table.proofs.Choice.{fails, holds}
+use Rattle.table.proofs.Choice.{holds}
 use Rattle.table.proofs.Sizes.{within_low, within_high}
-use borrow.Author.Rules.{rules}
 use Rattle.gamma.proofs.lut_interp_linear_gamma_impl.Goals as goal
 
 pub gamma-requires : goal.gamma-requires

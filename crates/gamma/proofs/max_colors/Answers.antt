@@ -4,7 +4,6 @@ use Prim.Native.Nat.{◌*◌, ◌%◌, ◌^◌}
 use native.Mathlib.Nat.{one-mul, mod-eq_of_lt}
 use native.Mathlib.Omega.{arith}
 use Rattle.gamma.proofs.Laws.{power_low, power_high}
-use borrow.Author.Rules.{rules}
 use Rattle.gamma.proofs.max_colors.Goals as goal
 
 pub returns : goal.returns

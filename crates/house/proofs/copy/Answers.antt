@@ -1,10 +1,8 @@
 -- `copy` meets its contract: the loop fills the buffer with the curve's entries. Assumes nothing.
-use Prim.Native.Nat.{◌-◌}
 use native.Mathlib.Omega.{arith}
-use borrow.Author.Rules.{rules}
 use mathlib.Core.Path.{refl}
-use Rattle.table.proofs.Fill.{Filling, filling_start, filling_more, filling_done}
-use Rattle.house.proofs.Copied.{entry_of, copied}
+use Rattle.table.proofs.Fill.{filling_start, filling_more, filling_done}
+use Rattle.house.proofs.Copied.{copied}
 use Rattle.house.proofs.copy.Goals as goal
 
 pub loop-i-init : goal.loop-i-init

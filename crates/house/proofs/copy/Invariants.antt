@@ -1,9 +1,7 @@
 -- `copy` meets its contract: the loop fills the buffer with the curve's entries. Assumes nothing.
 use Prim.Native.Nat.{◌-◌}
-use native.Mathlib.Omega.{arith}
-use mathlib.Core.Path.{refl}
-use Rattle.table.proofs.Fill.{Filling, filling_start, filling_more, filling_done}
-use Rattle.house.proofs.Copied.{entry_of, copied}
+use Rattle.table.proofs.Fill.{Filling}
+use Rattle.house.proofs.Copied.{entry_of}
 use Rattle.house.proofs.copy.Given as goal
 
 abbrev pub invariant-loop-i : goal.invariant-loop-i

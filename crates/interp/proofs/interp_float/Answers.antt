@@ -1,9 +1,7 @@
 -- `interp_float` meets its contract: the place lies between two entries, and the steps are those that are defined.
 -- Assumes nothing.
-use borrow.Author.Rules.{rules}
 use lib.ListN.{length}
 use lib.Ieee.{binary32}
-use Rattle.ieee.proofs.Range.{in_float_lem}
 use Rattle.interp.proofs.Place.{some, last_exact, place_asks, upper_inside, lower_inside}
 use Rattle.interp.proofs.Input.{read_upto}
 use Rattle.interp.proofs.Steps.{float_gives}

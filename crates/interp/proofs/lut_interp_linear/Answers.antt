@@ -1,14 +1,13 @@
 -- `lut_interp_linear` meets its promise, rung by rung; past them the table is empty, or has entries to weigh. Assumes
 -- nothing.
-use borrow.Author.Rules.{rules}
 use mathlib.Core.Path.{◌≡◌, ◌∙◌, sym}
 use mathlib.Core.Bool.{true, false}
 use lib.ListN.{length}
 use Rattle.table.specs.Sizes.{not_above}
-use Rattle.table.proofs.Choice.{fails, holds}
+use Rattle.table.proofs.Choice.{holds}
 use Rattle.interp.specs.Interp.{outside_unit}
 use Rattle.interp.proofs.Steps.{empty_gives, linear_gives}
-use Rattle.interp.proofs.Verdicts.{too_long, not_unit, linear_granted, not_empty}
+use Rattle.interp.proofs.Verdicts.{linear_granted, not_empty}
 use Rattle.interp.proofs.lut_interp_linear.Goals as goal
 
 pub returns-then-table-eq0 : goal.returns-then-table-eq0

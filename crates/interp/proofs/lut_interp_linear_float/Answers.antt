@@ -1,10 +1,9 @@
 -- `lut_interp_linear_float` meets its promise: refused for the length, or the lookup with its exact ends. Assumes
 -- nothing.
-use borrow.Author.Rules.{rules}
 use mathlib.Core.Path.{sym, subst}
 use lib.Dec.{T}
-use Rattle.table.proofs.Choice.{fails, holds}
-use Rattle.interp.proofs.Verdicts.{float_refused, float_granted}
+use Rattle.table.proofs.Choice.{holds}
+use Rattle.interp.proofs.Verdicts.{float_granted}
 use Rattle.interp.proofs.lut_interp_linear_float.Goals as goal
 
 pub returns : goal.returns

@@ -1,5 +1,4 @@
 -- `unit` meets its contract: the lesser of x and 1, and 0 where that is below 0. Assumes nothing.
-use borrow.Author.Rules.{rules}
 use Rattle.interp.proofs.Input.{unit_low, unit_kept}
 use Rattle.interp.proofs.unit.Goals as goal
 

@@ -1,6 +1,5 @@
 -- `least_input` meets its promise, rung by rung as far as the table decides. Assumes nothing.
-use borrow.Author.Rules.{rules}
-use Rattle.table.proofs.Choice.{fails, holds}
+use Rattle.table.proofs.Choice.{holds}
 use Rattle.table.proofs.Sizes.{within_low}
 use Rattle.table.specs.Order.{Passed}
 use Rattle.least.proofs.Tables.{by_last}

@@ -1,10 +1,7 @@
 -- `fill_least_row` meets its contract: the loops write the row's position of each value. Assumes nothing.
 use Prim.Native.Nat.{◌+◌, ◌-◌, ◌≤◌}
-use native.Mathlib.Omega.{arith}
 use lib.ListN.{length}
-use Rattle.table.proofs.Sizes.{within_low}
-use Rattle.least.proofs.Tables.{by_last}
-use Rattle.least_row.proofs.Abreast.{WrittenTo, written_start, written_at, written_more, written_done}
+use Rattle.least_row.proofs.Abreast.{WrittenTo}
 use Rattle.least_row.proofs.fill_least_row.Given as goal
 
 abbrev pub invariant-loop-j : goal.invariant-loop-j

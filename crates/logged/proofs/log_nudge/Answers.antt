@@ -1,16 +1,15 @@
 -- `log_nudge` meets its promise, rung by rung, and past them stores the one word, the count and the one entry. Assumes
 -- nothing.
-use mathlib.Core.Path.{◌≡◌, refl}
+use mathlib.Core.Path.{◌≡◌}
 use mathlib.Core.Bool.{true}
-use borrow.Author.Rules.{rules}
-use borrow.Author.Tests.{lt-ltb, le-ltb, le-leb, lt-leb}
+use borrow.Author.Tests.{lt-ltb, le-leb}
 use lib.ListN.{length}
 use lib.Dec.{ltb, leb}
 use Rattle.table.specs.Sizes.{sized}
 use Rattle.table.specs.Order.{nondecreasing}
-use Rattle.table.proofs.Choice.{fails, holds}
+use Rattle.table.proofs.Choice.{holds}
 use Rattle.nudge_log.specs.Records.{places}
-use Rattle.logged.proofs.Cases.{refused_so, granted_so, is_full, has_room, index_narrow}
+use Rattle.logged.proofs.Cases.{index_narrow}
 use Rattle.logged.proofs.log_nudge.Goals as goal
 
 pub word-requires : goal.word-requires

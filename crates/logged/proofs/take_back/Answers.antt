@@ -1,15 +1,6 @@
 -- `take_back` meets its promise, rung by rung, and past them stores the one entry and the count. Assumes nothing.
-use mathlib.Core.Path.{◌≡◌, refl}
-use mathlib.Core.Bool.{true}
-use native.Mathlib.Omega.{arith}
-use borrow.Author.Rules.{rules}
-use borrow.Author.Tests.{lt-ltb, le-leb, lt-leb}
-use lib.ListN.{length}
-use Rattle.table.specs.Sizes.{sized}
-use Rattle.table.specs.Order.{nondecreasing}
-use Rattle.table.proofs.Choice.{fails, holds}
+use Rattle.table.proofs.Choice.{holds}
 use Rattle.nudge_log.proofs.Records.{goes_inside}
-use Rattle.logged.proofs.Cases.{refused_so, granted_so, none_stands, one_stands, index_narrow}
 use Rattle.logged.proofs.take_back.Goals as goal
 
 -- the last one's index is in the table, and so it is 16 bits wide

@@ -1,5 +1,4 @@
 -- `few_enough` meets its contract: the definition's two tests, in its order. Assumes nothing.
-use borrow.Author.Rules.{rules}
 use borrow.Author.Tests.{lt-ltb, le-ltb}
 use Rattle.monotonic.specs.Steps.{few_enough}
 use Rattle.monotonic.proofs.few_enough.Goals as goal

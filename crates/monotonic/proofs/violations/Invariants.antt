@@ -1,10 +1,8 @@
 -- `violations` meets its contract. The invariant: the count so far and the violations still to come add up to the
 -- table's. Assumes nothing.
-use mathlib.Core.Path.{◌∙◌}
 use Prim.Native.Nat.{◌-◌}
-use native.Mathlib.Omega.{arith}
 use lib.ListN.{length}
-use Rattle.monotonic.proofs.Steps.{Counted, counted_start, counted_on, counted_end}
+use Rattle.monotonic.proofs.Steps.{Counted}
 use Rattle.monotonic.proofs.violations.Given as goal
 
 abbrev pub invariant-loop-i : goal.invariant-loop-i

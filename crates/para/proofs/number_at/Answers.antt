@@ -1,10 +1,9 @@
 -- `number_at` meets its contract: the four bytes where the tag has the number, and 0 otherwise. Assumes nothing.
 use mathlib.Core.Path.{◌∙◌, ap}
-use borrow.Author.Tests.{lt-ltb, le-ltb}
+use borrow.Author.Tests.{lt-ltb}
 use Rattle.para.specs.Signed.{signed_of}
 use Rattle.para.specs.Tag.{raw_at}
 use Rattle.para.proofs.Complement.{held}
-use borrow.Author.Rules.{rules}
 use Rattle.para.proofs.number_at.Goals as goal
 
 pub returns-then-k-n : goal.returns-then-k-n

@@ -3,7 +3,6 @@
 use native.Mathlib.Omega.{arith}
 use Rattle.para.proofs.Checks.{short, unsigned, unreserved, unreserved_after, untyped, unwhole, right}
 use Rattle.para.proofs.Promises.{read_refused, read_granted}
-use borrow.Author.Rules.{rules}
 use Rattle.para.proofs.read_para.Goals as goal
 
 pub returns-then-tag-lt12 : goal.returns-then-tag-lt12

@@ -5,7 +5,6 @@ use native.Mathlib.Omega.{arith}
 use mir.Syntax.{w32}
 use mir.Val.{to_z}
 use Rattle.para.proofs.Complement.{signed_machine}
-use borrow.Author.Rules.{rules}
 use Rattle.para.proofs.signed_of.Goals as goal
 
 pub returns-then-x-lt2147483648 : goal.returns-then-x-lt2147483648

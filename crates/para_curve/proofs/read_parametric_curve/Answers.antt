@@ -1,9 +1,8 @@
 -- `read_parametric_curve` meets its contract: refused as the reading is, and otherwise unified from what it read.
 -- Assumes nothing.
 use mathlib.Core.Path.{refl}
-use Rattle.para.proofs.Promises.{refused_read, granted_read}
-use Rattle.para_curve.proofs.Promises.{curve_refused, curve_granted}
-use borrow.Author.Rules.{rules}
+use Rattle.para.proofs.Promises.{granted_read}
+use Rattle.para_curve.proofs.Promises.{curve_granted}
 use Rattle.para_curve.proofs.read_parametric_curve.Goals as goal
 
 pub curve_from-requires : goal.curve_from-requires

@@ -1,6 +1,5 @@
 -- `put_head` meets its contract: three runs of stores make the first twelve bytes. Assumes nothing.
 use Rattle.para_writer.proofs.Written.{head_stored}
-use borrow.Author.Rules.{rules}
 use Rattle.para_writer.proofs.put_head.Goals as goal
 
 pub returns : goal.returns

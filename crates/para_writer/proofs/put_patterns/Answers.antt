@@ -1,9 +1,6 @@
 -- `put_patterns` meets its contract: the loop stores the patterns after the first twelve bytes. Assumes nothing.
-use Prim.Native.Nat.{◌-◌}
 use native.Mathlib.Omega.{arith}
-use borrow.Author.Rules.{rules}
-use lib.ListN.{length}
-use Rattle.icc.proofs.Words.{four_bytes, Storing, storing_start, storing_more, storing_done}
+use Rattle.icc.proofs.Words.{four_bytes, storing_start, storing_more}
 use Rattle.para_writer.proofs.put_patterns.Goals as goal
 
 pub loop-k-init : goal.loop-k-init

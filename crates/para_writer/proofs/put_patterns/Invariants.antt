@@ -1,8 +1,7 @@
 -- `put_patterns` meets its contract: the loop stores the patterns after the first twelve bytes. Assumes nothing.
 use Prim.Native.Nat.{◌-◌}
-use native.Mathlib.Omega.{arith}
 use lib.ListN.{length}
-use Rattle.icc.proofs.Words.{four_bytes, Storing, storing_start, storing_more, storing_done}
+use Rattle.icc.proofs.Words.{four_bytes, Storing}
 use Rattle.para_writer.proofs.put_patterns.Given as goal
 
 abbrev pub invariant-loop-k : goal.invariant-loop-k

@@ -1,12 +1,10 @@
 -- `compare_parametric` meets its promise. The invariant: what is left to compare is close exactly if the whole is.
 -- Assumes nothing.
-use mathlib.Core.Path.{◌≡◌, ◌∙◌, refl, sym}
-use Prim.Native.Nat.{◌≤◌, ◌<◌, ◌-◌, min}
+use mathlib.Core.Path.{◌∙◌, sym}
+use Prim.Native.Nat.{◌≤◌, min}
 use native.Mathlib.Omega.{arith}
-use borrow.Author.Rules.{rules}
-use lib.ListN.{length, drop}
-use Rattle.parametric.specs.Compare.{close}
-use Rattle.parametric.proofs.Compare.{walk_on, walk_stop, walk_end}
+use lib.ListN.{length}
+use Rattle.parametric.proofs.Compare.{walk_end}
 use Rattle.parametric.proofs.compare_parametric.Goals as goal
 
 pub returns : goal.returns

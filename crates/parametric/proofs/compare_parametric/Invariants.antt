@@ -1,11 +1,9 @@
 -- `compare_parametric` meets its promise. The invariant: what is left to compare is close exactly if the whole is.
 -- Assumes nothing.
-use mathlib.Core.Path.{◌≡◌, ◌∙◌, refl, sym}
-use Prim.Native.Nat.{◌≤◌, ◌<◌, ◌-◌, min}
-use native.Mathlib.Omega.{arith}
+use mathlib.Core.Path.{◌≡◌}
+use Prim.Native.Nat.{◌≤◌, ◌-◌, min}
 use lib.ListN.{length, drop}
 use Rattle.parametric.specs.Compare.{close}
-use Rattle.parametric.proofs.Compare.{walk_on, walk_stop, walk_end}
 use Rattle.parametric.proofs.compare_parametric.Given as goal
 
 abbrev pub invariant-loop-i : goal.invariant-loop-i

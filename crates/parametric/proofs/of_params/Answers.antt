@@ -3,7 +3,6 @@
 use mathlib.Core.Path.{◌≡◌, refl}
 use Prim.Native.Nat.{◌≤◌}
 use native.Mathlib.Omega.{arith}
-use borrow.Author.Rules.{rules}
 use lib.ListN.{length}
 use Rattle.parametric.proofs.Unify.{one_makes, three_make, four_make, five_make, seven_make, first_one}
 use Rattle.parametric.proofs.Unify.{then_three, then_four, then_five, then_seven}

@@ -2,7 +2,6 @@
 use mathlib.Core.Path.{ap}
 use lib.Ieee.{binary32, lt, of_bits}
 use Rattle.parametric.specs.Compare.{far}
-use borrow.Author.Rules.{rules}
 use Rattle.parametric.proofs.too_far.Goals as goal
 
 pub returns : goal.returns

@@ -1,5 +1,5 @@
 -- `float_of` meets its contract: the test stops exactly the patterns of NaNs. Assumes nothing.
-use mathlib.Core.Path.{◌∙◌, refl, sym, subst}
+use mathlib.Core.Path.{◌∙◌, sym, subst}
 use mathlib.Core.Bool.{Bool, not}
 use Prim.Native.Nat.{◌%◌}
 use lib.Arith.{le→nltb}

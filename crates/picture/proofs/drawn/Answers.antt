@@ -1,7 +1,6 @@
 -- `drawn` meets its contract: the one test, and past it the table is short enough. Assumes nothing.
 use native.Mathlib.Omega.{arith}
-use borrow.Author.Rules.{rules}
-use Rattle.table.proofs.Choice.{fails, holds}
+use Rattle.table.proofs.Choice.{holds}
 use Rattle.table.proofs.Sizes.{within_high}
 use Rattle.picture.proofs.drawn.Goals as goal
 

@@ -1,11 +1,9 @@
 -- `fill_values` meets its contract: the loop fills the buffer with the values at the entries of the straight curve of
 -- the same length. Assumes nothing.
 use mathlib.Core.Path.{refl, ap, ◌∙◌}
-use Prim.Native.Nat.{◌-◌}
 use native.Mathlib.Omega.{arith}
-use borrow.Author.Rules.{rules}
-use Rattle.table.proofs.Fill.{Filling, filling_start, filling_more, filling_done}
-use Rattle.power_curve.specs.Curve.{value_at, entry_at}
+use Rattle.table.proofs.Fill.{filling_start, filling_more, filling_done}
+use Rattle.power_curve.specs.Curve.{value_at}
 use Rattle.power_curve.proofs.fill_values.Goals as goal
 
 pub loop-i-init : goal.loop-i-init

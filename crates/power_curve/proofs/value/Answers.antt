@@ -1,7 +1,6 @@
 -- `value` meets its contract: a power and what is added to it stay below 65536 units, so that the answer fits 16 bits.
 -- Assumes nothing.
 use native.Mathlib.Omega.{arith}
-use borrow.Author.Rules.{rules}
 use Rattle.power_curve.specs.Curve.{value_at}
 use Rattle.power_curve.proofs.Sizes.{added_size}
 use Rattle.power_curve.proofs.value.Goals as goal

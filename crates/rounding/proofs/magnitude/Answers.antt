@@ -1,6 +1,5 @@
 -- `magnitude` meets its contract: each arm is a range of the exponent, and a law of `proofs/Narrow.antt`. Assumes
 -- nothing.
-use borrow.Author.Rules.{rules}
 use Rattle.rounding.proofs.Narrow.{over_gives, normal_gives, low_asks, low_gives, none_gives}
 use Rattle.rounding.proofs.magnitude.Goals as goal
 

@@ -1,6 +1,5 @@
 -- `nearest_f64_to_f32` meets its promise: the pattern is the sign's bit and what `magnitude` makes of x's own pattern
 -- without its sign. Assumes nothing.
-use borrow.Author.Rules.{rules}
 use borrow.Author.Tests.{le-leb, lt-leb}
 use mathlib.Core.Path.{sym, subst}
 use mathlib.Core.Bool.{true, false, not}

@@ -1,5 +1,4 @@
 -- `nearest_quotient` meets its contract: the sum is a law of `proofs/Narrow.antt`. Assumes nothing.
-use borrow.Author.Rules.{rules}
 use Rattle.rounding.proofs.Narrow.{by_sum}
 use Rattle.rounding.proofs.nearest_quotient.Goals as goal
 

@@ -1,6 +1,5 @@
 -- `s15_fixed16_number_to_float` meets its promise: x / 65536 is exact in f64, so the f32 is rounded once. Assumes
 -- nothing.
-use borrow.Author.Rules.{rules}
 use mathlib.Core.Path.{subst}
 use lib.IntN.{ℤ}
 use lib.Ieee.{binary64, div, of_int, of_bits}

@@ -1,5 +1,4 @@
 -- `u8_fixed_8number_to_float` meets its promise: x / 256 is exact in f64, and an f32 holds it. Assumes nothing.
-use borrow.Author.Rules.{rules}
 use Rattle.rounding.proofs.Fixed.{u8_gives}
 use Rattle.rounding.proofs.u8_fixed_8number_to_float.Goals as goal
 

@@ -1,10 +1,7 @@
 -- `fill_baked` meets its contract: the loop fills the buffer with the lookup at each position. Assumes nothing.
-use Prim.Native.Nat.{◌-◌}
 use native.Mathlib.Omega.{arith}
-use borrow.Author.Rules.{rules}
 use Rattle.table.proofs.Sizes.{within_low, within_high}
-use Rattle.table.proofs.Fill.{Filling, filling_start, filling_more, filling_done}
-use Rattle.lookup.specs.Lookup.{looked_up}
+use Rattle.table.proofs.Fill.{filling_start, filling_more, filling_done}
 use Rattle.rows.proofs.fill_baked.Goals as goal
 
 pub overflow_sub-top : goal.overflow_sub-top

@@ -1,8 +1,6 @@
 -- `fill_baked` meets its contract: the loop fills the buffer with the lookup at each position. Assumes nothing.
 use Prim.Native.Nat.{◌-◌}
-use native.Mathlib.Omega.{arith}
-use Rattle.table.proofs.Sizes.{within_low, within_high}
-use Rattle.table.proofs.Fill.{Filling, filling_start, filling_more, filling_done}
+use Rattle.table.proofs.Fill.{Filling}
 use Rattle.lookup.specs.Lookup.{looked_up}
 use Rattle.rows.proofs.fill_baked.Given as goal
 

@@ -1,11 +1,7 @@
 -- `fill_by_load` meets its contract: of 65,536 entries the lookup at a position is that entry. Assumes nothing.
 use mathlib.Core.Path.{sym}
-use Prim.Native.Nat.{◌-◌}
 use native.Mathlib.Omega.{arith}
-use borrow.Author.Rules.{rules}
-use lib.ListN.{length}
-use Rattle.table.proofs.Fill.{Filling, filling_start, filling_more, filling_done}
-use Rattle.rows.specs.Rows.{row_at}
+use Rattle.table.proofs.Fill.{filling_start, filling_more, filling_done}
 use Rattle.lookup.proofs.LookupLaws.{looked_up_full}
 use Rattle.rows.proofs.fill_by_load.Goals as goal
 

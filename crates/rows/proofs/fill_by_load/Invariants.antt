@@ -1,11 +1,8 @@
 -- `fill_by_load` meets its contract: of 65,536 entries the lookup at a position is that entry. Assumes nothing.
-use mathlib.Core.Path.{sym}
 use Prim.Native.Nat.{◌-◌}
-use native.Mathlib.Omega.{arith}
 use lib.ListN.{length}
-use Rattle.table.proofs.Fill.{Filling, filling_start, filling_more, filling_done}
+use Rattle.table.proofs.Fill.{Filling}
 use Rattle.rows.specs.Rows.{row_at}
-use Rattle.lookup.proofs.LookupLaws.{looked_up_full}
 use Rattle.rows.proofs.fill_by_load.Given as goal
 
 abbrev pub invariant-loop-i : goal.invariant-loop-i

@@ -1,10 +1,8 @@
 -- `fill_by_lookup` meets its contract. The invariant: the output holds the row up to i, and from there on what it held.
 -- Assumes nothing.
 use Prim.Native.Nat.{◌-◌}
-use native.Mathlib.Omega.{arith}
 use lib.ListN.{length}
-use Rattle.table.proofs.Sizes.{within_low, within_high}
-use Rattle.table.proofs.Fill.{Filling, filling_start, filling_more, filling_done}
+use Rattle.table.proofs.Fill.{Filling}
 use Rattle.rows.specs.Rows.{row_at}
 use Rattle.rows.proofs.fill_by_lookup.Given as goal
 

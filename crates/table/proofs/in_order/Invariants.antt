@@ -1,9 +1,8 @@
 -- `in_order` meets its contract. The invariant: the pairs passed and those that are left make the whole test. Assumes
 -- nothing.
 use Prim.Native.Nat.{◌-◌}
-use native.Mathlib.Omega.{arith}
 use lib.ListN.{length}
-use Rattle.table.proofs.Order.{Walked, walk_start, walk_on, walk_end}
+use Rattle.table.proofs.Order.{Walked}
 use Rattle.table.proofs.in_order.Given as goal
 
 abbrev pub invariant-loop-i : goal.invariant-loop-i

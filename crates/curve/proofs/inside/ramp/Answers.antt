@@ -2,10 +2,9 @@
 -- Assumes nothing.
 use mathlib.Core.Path.{refl}
 use native.Mathlib.Omega.{arith}
-use borrow.Author.Rules.{rules}
 use Rattle.table.proofs.Sizes.{within_high}
 use Rattle.curve.specs.Ramp.{ramp}
-use Rattle.curve.proofs.RampLaws.{ramp_divisor, ramp_fits}
+use Rattle.curve.proofs.RampLaws.{ramp_divisor}
 use Rattle.curve.proofs.inside.ramp.Goals as goal
 
 pub overflow_mul-result-2 : goal.overflow_mul-result-2

@@ -1,6 +1,5 @@
 -- `put_opening` meets its contract: two numbers stored are the opening. Assumes nothing.
 use Rattle.icc.proofs.Stores.{opening_stored}
-use borrow.Author.Rules.{rules}
 use Rattle.icc.proofs.inside.put_opening.Goals as goal
 
 pub returns : goal.returns

@@ -1,10 +1,7 @@
 -- `put_u16` meets its contract: two stores in a row are the definition's. Assumes nothing.
 use mathlib.Core.Path.{refl}
-use native.Mathlib.Omega.{arith}
 use native.Mathlib.Numerals.{add-one}
-use lib.ListN.{length-set}
 use Rattle.icc.specs.Bytes.{bytes16}
-use borrow.Author.Rules.{rules}
 use Rattle.icc.proofs.inside.put_u16.Goals as goal
 
 pub returns : goal.returns

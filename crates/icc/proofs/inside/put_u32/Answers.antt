@@ -1,6 +1,5 @@
 -- `put_u32` meets its contract: two halves stored are the number. Assumes nothing.
 use Rattle.icc.proofs.Stores.{halves_stored}
-use borrow.Author.Rules.{rules}
 use Rattle.icc.proofs.inside.put_u32.Goals as goal
 
 pub returns : goal.returns

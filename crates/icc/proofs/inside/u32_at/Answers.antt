@@ -1,8 +1,6 @@
 -- `u32_at` meets its contract: two halves make the number. Assumes nothing.
 use native.Mathlib.Omega.{arith}
-use Rattle.icc.specs.Bytes.{EightBits}
 use Rattle.icc.proofs.Numbers.{be32_halves}
-use borrow.Author.Rules.{rules}
 use Rattle.icc.proofs.inside.u32_at.Goals as goal
 
 pub returns : goal.returns

@@ -2,7 +2,6 @@
 -- Assumes nothing.
 use mathlib.Core.Path.{◌∙◌, refl, sym}
 use native.Mathlib.Omega.{arith}
-use borrow.Author.Rules.{rules}
 use Rattle.table.proofs.Sizes.{within_high}
 use Rattle.inverse_start.proofs.Runs.{zeros_le, tops_le}
 use Rattle.inverse.proofs.Whole.{Begun, begun_ready, at_once, crossed, hit_answer, missed_low, missed_answer}

@@ -1,12 +1,10 @@
 -- `search` meets its contract. The invariant: searching on between l and r gives what the whole search gives; every x
 -- that can be probed there has x - 1 for a position; and the last x probed is at most 65535. Assumes nothing.
-use mathlib.Core.Path.{◌≡◌, ◌∙◌, sym, subst}
-use Prim.Native.Nat.{ℕ, ◌≤◌, ◌<◌, ◌-◌}
+use mathlib.Core.Path.{◌∙◌, sym, subst}
+use Prim.Native.Nat.{ℕ, ◌<◌}
 use native.Mathlib.Omega.{arith}
 use Rattle.table.proofs.Sizes.{within_low, within_high}
-use Rattle.inverse.specs.Inside.{Ready}
-use Rattle.inverse.specs.Inverse.{searched}
-use Rattle.inverse.proofs.Bisection.{from, from_start, from_over, from_hit, from_left, from_right, probe_low}
+use Rattle.inverse.proofs.Bisection.{from_start, from_over, from_hit, from_left, from_right}
 use Rattle.inverse.proofs.Bisection.{probe_high, ready_left, ready_right}
 use Rattle.inverse.proofs.inside.search.Goals as goal
 

@@ -1,8 +1,6 @@
 -- `first_left` meets its contract: the quotient is at least 1, so that one less is no wrap. Assumes nothing.
 use mathlib.Core.Path.{sym}
-use native.Mathlib.Omega.{arith}
-use borrow.Author.Rules.{rules}
-use Rattle.inverse_start.proofs.Start.{left_one, left_some, left_quotient_low}
+use Rattle.inverse_start.proofs.Start.{left_one, left_some}
 use Rattle.inverse_start.proofs.inside.first_left.Goals as goal
 
 pub returns-then-z-gt1 : goal.returns-then-z-gt1

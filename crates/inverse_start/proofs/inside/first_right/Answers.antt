@@ -3,8 +3,7 @@
 use mathlib.Core.Path.{sym}
 use Prim.Native.Nat.{◌≤◌, ◌<◌}
 use native.Mathlib.Omega.{arith}
-use borrow.Author.Rules.{rules}
-use Rattle.inverse_start.proofs.Start.{right_none, right_some, right_all, right_quotient}
+use Rattle.inverse_start.proofs.Start.{right_none, right_some, right_all}
 use Rattle.inverse_start.proofs.inside.first_right.Goals as goal
 
 pub returns-then-w-le1 : goal.returns-then-w-le1

@@ -1,8 +1,5 @@
 -- `leading_zeros` meets its contract: the loop counts the run of 0 from the first entry on. Assumes nothing.
-use Prim.Native.Nat.{◌-◌}
-use borrow.Author.Rules.{rules}
-use lib.ListN.{length}
-use Rattle.table.proofs.Runs.{Counting, counting_start, counting_more, counting_stop, counting_end}
+use Rattle.table.proofs.Runs.{counting_stop, counting_end}
 use Rattle.inverse_start.specs.Start.{leading_zeros}
 use Rattle.inverse_start.proofs.inside.leading_zeros.Goals as goal
 

@@ -1,8 +1,7 @@
 -- `leading_zeros` meets its contract: the loop counts the run of 0 from the first entry on. Assumes nothing.
 use Prim.Native.Nat.{◌-◌}
 use lib.ListN.{length}
-use Rattle.table.proofs.Runs.{Counting, counting_start, counting_more, counting_stop, counting_end}
-use Rattle.inverse_start.specs.Start.{leading_zeros}
+use Rattle.table.proofs.Runs.{Counting}
 use Rattle.inverse_start.proofs.inside.leading_zeros.Given as goal
 
 abbrev pub invariant-loop-z : goal.invariant-loop-z

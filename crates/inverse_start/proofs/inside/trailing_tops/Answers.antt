@@ -1,9 +1,4 @@
 -- `trailing_tops` meets its contract: the loop counts the run of 65535 from the last entry back. Assumes nothing.
-use mathlib.Core.List.{reverse}
-use Prim.Native.Nat.{◌-◌}
-use borrow.Author.Rules.{rules}
-use lib.ListN.{length}
-use Rattle.table.proofs.Runs.{Counting, counting_start}
 use Rattle.inverse_start.specs.Start.{trailing_tops}
 use Rattle.inverse_start.proofs.Runs.{back_more, back_stop, back_end}
 use Rattle.inverse_start.proofs.inside.trailing_tops.Goals as goal

@@ -2,9 +2,7 @@
 use mathlib.Core.List.{reverse}
 use Prim.Native.Nat.{◌-◌}
 use lib.ListN.{length}
-use Rattle.table.proofs.Runs.{Counting, counting_start}
-use Rattle.inverse_start.specs.Start.{trailing_tops}
-use Rattle.inverse_start.proofs.Runs.{back_more, back_stop, back_end}
+use Rattle.table.proofs.Runs.{Counting}
 use Rattle.inverse_start.proofs.inside.trailing_tops.Given as goal
 
 abbrev pub invariant-loop-w : goal.invariant-loop-w

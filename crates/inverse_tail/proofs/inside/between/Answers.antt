@@ -1,10 +1,4 @@
 -- `between` meets its contract: its tests and constants are the definition's. Assumes nothing.
-use Prim.Native.Nat.{◌-◌, ◌≤◌}
-use native.Mathlib.Omega.{arith}
-use borrow.Author.Rules.{rules}
-use lib.ListN.{length}
-use lib.Ieee.{binary64}
-use Rattle.ieee.proofs.Range.{in_float_lem}
 use Rattle.inverse_tail.proofs.Cells.{one_cell, nearly_flat, sloped}
 use Rattle.inverse_tail.proofs.inside.between.Goals as goal
 

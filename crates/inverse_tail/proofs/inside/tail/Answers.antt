@@ -1,7 +1,6 @@
 -- `tail` meets its contract: both cells lie in the table. Assumes nothing.
 use Prim.Native.Nat.{◌-◌, ◌≤◌}
 use native.Mathlib.Omega.{arith}
-use borrow.Author.Rules.{rules}
 use lib.ListN.{length}
 use lib.Ieee.{binary64}
 use Rattle.table.proofs.Sizes.{within_low, within_high}

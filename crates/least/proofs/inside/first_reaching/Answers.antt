@@ -1,10 +1,8 @@
 -- `first_reaching` meets its contract. The invariant: the two indices bracket the first entry that is not below v.
 -- Assumes nothing.
-use Prim.Native.Nat.{◌-◌}
 use native.Mathlib.Nat.{le_refl}
 use native.Mathlib.Omega.{arith}
-use borrow.Author.Rules.{rules}
-use Rattle.least.proofs.Bracket.{Bracket, bracket_start, bracket_up, bracket_down, bracket_end}
+use Rattle.least.proofs.Bracket.{bracket_start, bracket_up, bracket_down, bracket_end}
 use Rattle.least.proofs.inside.first_reaching.Goals as goal
 
 pub loop-low-init : goal.loop-low-init

@@ -1,9 +1,7 @@
 -- `first_reaching` meets its contract. The invariant: the two indices bracket the first entry that is not below v.
 -- Assumes nothing.
 use Prim.Native.Nat.{◌-◌}
-use native.Mathlib.Nat.{le_refl}
-use native.Mathlib.Omega.{arith}
-use Rattle.least.proofs.Bracket.{Bracket, bracket_start, bracket_up, bracket_down, bracket_end}
+use Rattle.least.proofs.Bracket.{Bracket}
 use Rattle.least.proofs.inside.first_reaching.Given as goal
 
 abbrev pub invariant-loop-low : goal.invariant-loop-low

@@ -3,7 +3,6 @@
 use mathlib.Core.Path.{◌≡◌, ◌∙◌, ap, sym, subst}
 use Prim.Native.Nat.{ℕ, ◌+◌, ◌*◌, ◌≤◌}
 use native.Mathlib.Omega.{arith}
-use borrow.Author.Rules.{rules}
 use Rattle.table.specs.Quotient.{div_ceil}
 use Rattle.least.proofs.Cell.{cell_steps, steps_read, steps_small, cell_inside, cell_least}
 use Rattle.least.proofs.Tables.{searchable_few}

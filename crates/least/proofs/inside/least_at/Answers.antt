@@ -1,10 +1,8 @@
 -- `least` meets its contract: the first entry that is not below v is the table's first, or the upper end of a cell.
 -- Assumes nothing.
 use mathlib.Core.Path.{sym}
-use native.Mathlib.Omega.{arith}
-use borrow.Author.Rules.{rules}
 use Prim.Native.Nat.{zero-le}
-use Rattle.least.proofs.Bracket.{found_first, found_cell}
+use Rattle.least.proofs.Bracket.{found_first}
 use Rattle.least.proofs.Tables.{table_first}
 use Rattle.least.proofs.inside.least_at.Goals as goal
 

@@ -1,9 +1,6 @@
 -- `all_closer` meets its contract: the loop fills the array with the step of each search. Assumes nothing.
-use Prim.Native.Nat.{◌-◌}
 use native.Mathlib.Omega.{arith}
-use borrow.Author.Rules.{rules}
-use Rattle.table.proofs.Fill.{Filling, filling_start, filling_more, filling_done}
-use Rattle.least_row.proofs.Abreast.{closer_at}
+use Rattle.table.proofs.Fill.{filling_start, filling_more, filling_done}
 use Rattle.least_row.proofs.four.all_closer.Goals as goal
 
 pub loop-j-init : goal.loop-j-init

@@ -1,7 +1,6 @@
 -- `all_closer` meets its contract: the loop fills the array with the step of each search. Assumes nothing.
 use Prim.Native.Nat.{◌-◌}
-use native.Mathlib.Omega.{arith}
-use Rattle.table.proofs.Fill.{Filling, filling_start, filling_more, filling_done}
+use Rattle.table.proofs.Fill.{Filling}
 use Rattle.least_row.proofs.Abreast.{closer_at}
 use Rattle.least_row.proofs.four.all_closer.Given as goal
 

@@ -1,7 +1,7 @@
 -- `four_reaching` meets its contract: a step halves what is left of each search. Assumes nothing.
 use native.Mathlib.Omega.{arith}
 use Rattle.least.proofs.Tables.{searchable_few}
-use Rattle.least_row.proofs.Abreast.{Searching, searching_start, searching_left, searching_room}
+use Rattle.least_row.proofs.Abreast.{searching_start, searching_left, searching_room}
 use Rattle.least_row.proofs.Abreast.{searching_more, searching_end}
 use Rattle.least_row.proofs.four.four_reaching.Goals as goal
 

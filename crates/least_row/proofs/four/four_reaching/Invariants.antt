@@ -1,8 +1,5 @@
 -- `four_reaching` meets its contract: a step halves what is left of each search. Assumes nothing.
-use native.Mathlib.Omega.{arith}
-use Rattle.least.proofs.Tables.{searchable_few}
-use Rattle.least_row.proofs.Abreast.{Searching, searching_start, searching_left, searching_room}
-use Rattle.least_row.proofs.Abreast.{searching_more, searching_end}
+use Rattle.least_row.proofs.Abreast.{Searching}
 use Rattle.least_row.proofs.four.four_reaching.Given as goal
 
 abbrev pub invariant-loop-left : goal.invariant-loop-left

@@ -1,7 +1,6 @@
 -- `lookup` meets its contract: a sized table has a last index. Assumes nothing.
 use native.Mathlib.Omega.{arith}
 use Rattle.table.proofs.Sizes.{within_low, within_high}
-use borrow.Author.Rules.{rules}
 use Rattle.lookup.proofs.inside.lookup.Goals as goal
 
 pub overflow_sub-table : goal.overflow_sub-table

@@ -6,7 +6,6 @@ use native.Mathlib.Nat.{mul-le-mul_right}
 use native.Mathlib.Omega.{arith}
 use Rattle.lookup.proofs.Halves.{after_le, quotient_read}
 use Rattle.lookup.proofs.LookupLaws.{looked_up_read}
-use borrow.Author.Rules.{rules}
 use Rattle.lookup.proofs.inside.lookup_to.Goals as goal
 
 pub entry-requires : goal.entry-requires

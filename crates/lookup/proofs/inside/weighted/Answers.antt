@@ -1,10 +1,8 @@
 -- `weighted` meets its contract: both entries are within the table by the bound on the steps. Assumes nothing.
-use Prim.Native.Nat.{◌/◌}
-use native.Mathlib.Nat.{mod-lt, div-add-mod', le-mul_of_pos_right}
+use native.Mathlib.Nat.{mod-lt}
 use native.Mathlib.Omega.{arith}
-use Rattle.lookup.proofs.Steps.{lower_lt, upper_lt}
+use Rattle.lookup.proofs.Steps.{upper_lt}
 use Rattle.lookup.proofs.Sum.{sum_read}
-use borrow.Author.Rules.{rules}
 use Rattle.lookup.proofs.inside.weighted.Goals as goal
 
 pub entry-requires : goal.entry-requires

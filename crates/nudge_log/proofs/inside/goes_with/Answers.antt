@@ -1,6 +1,5 @@
 -- `goes_with` makes the three tests in their order. Assumes nothing.
 use mathlib.Core.Path.{◌∙◌, sym}
-use borrow.Author.Rules.{rules}
 use Rattle.nudge_log.proofs.Records.{goes_beyond, goes_other, goes_same}
 use Rattle.nudge_log.proofs.inside.goes_with.Goals as goal
 

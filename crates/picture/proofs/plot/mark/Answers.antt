@@ -1,6 +1,5 @@
 -- `mark` meets its contract: a way out for each mark. Assumes nothing.
 use mathlib.Core.Path.{◌∙◌, sym}
-use borrow.Author.Rules.{rules}
 use Rattle.picture.specs.Plot.{star, left, right, passed, blank}
 use Rattle.picture.proofs.plot.mark.Goals as goal
 

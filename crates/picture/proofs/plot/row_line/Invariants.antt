@@ -1,6 +1,5 @@
 -- `row_line` is safe and ends: the measure is the columns that are left. Assumes nothing.
 use Prim.Native.Nat.{◌≤◌, ◌-◌}
-use native.Mathlib.Omega.{arith}
 use Rattle.picture.proofs.plot.row_line.Given as goal
 
 abbrev pub invariant-loop-column : goal.invariant-loop-column

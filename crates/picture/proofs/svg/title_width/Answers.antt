@@ -1,9 +1,5 @@
 -- `title_width` is safe and ends: each of at most 300 bytes adds at most 3. Assumes nothing.
-use Prim.Native.Nat.{◌*◌, ◌≤◌, ◌-◌}
-use mathlib.Core.Path.{◌≡◌}
-use lib.ListN.{length}
 use native.Mathlib.Omega.{arith}
-use borrow.Author.Rules.{rules}
 use Rattle.picture.proofs.Escaping.{shown_length}
 use Rattle.picture.proofs.svg.title_width.Goals as goal
 

@@ -3,9 +3,7 @@
 use Prim.Native.Nat.{◌+◌, ◌≤◌, ◌-◌}
 use mathlib.Core.Path.{◌≡◌}
 use lib.ListN.{length, drop}
-use native.Mathlib.Omega.{arith}
 use Rattle.picture.specs.Text.{total, escaped_width}
-use Rattle.picture.proofs.Walking.{total_next, total_none}
 use Rattle.picture.proofs.text.put_escaped.Given as goal
 
 abbrev pub invariant-loop-i : goal.invariant-loop-i

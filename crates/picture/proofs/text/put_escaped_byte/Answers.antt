@@ -1,6 +1,5 @@
 -- `put_escaped_byte` meets its contract, case by case. Assumes nothing.
 use native.Mathlib.Omega.{arith}
-use borrow.Author.Rules.{rules}
 use Rattle.picture.proofs.Escaping.{width_and, width_less, width_more, width_plain}
 use Rattle.picture.proofs.text.put_escaped_byte.Goals as goal
 

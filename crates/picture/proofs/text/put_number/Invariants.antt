@@ -1,6 +1,5 @@
 -- `put_number` meets its contract: at most five digits are written. Assumes nothing.
 use Prim.Native.Nat.{◌≤◌, ◌-◌}
-use native.Mathlib.Omega.{arith}
 use Rattle.picture.proofs.text.put_number.Given as goal
 
 abbrev pub invariant-loop-i : goal.invariant-loop-i

@@ -1,5 +1,4 @@
 -- `after_edge` meets its contract, case by case. Assumes nothing.
-use borrow.Author.Rules.{rules}
 use borrow.Author.Tests.{eq-eqb, ne_eqb}
 use Rattle.picture.specs.Title.{after_edge}
 use Rattle.picture.proofs.title.after_edge.Goals as goal

@@ -1,5 +1,4 @@
 -- `after_first` meets its contract, case by case. Assumes nothing.
-use borrow.Author.Rules.{rules}
 use borrow.Author.Tests.{lt-ltb, le-ltb, le-leb, lt-leb}
 use Rattle.picture.specs.Title.{after_first}
 use Rattle.picture.proofs.title.after_first.Goals as goal

@@ -1,5 +1,4 @@
 -- `after_lead` meets its contract: 0xEF by itself, and any other by its callees. Assumes nothing.
-use borrow.Author.Rules.{rules}
 use borrow.Author.Tests.{eq-eqb, ne_eqb}
 use Rattle.picture.specs.Title.{after_lead}
 use Rattle.picture.proofs.title.after_lead.Goals as goal

@@ -1,5 +1,4 @@
 -- `after_tail` meets its contract, case by case. Assumes nothing.
-use borrow.Author.Rules.{rules}
 use borrow.Author.Tests.{lt-leb, le-leb}
 use Rattle.picture.specs.Title.{after_tail}
 use Rattle.picture.proofs.title.after_tail.Goals as goal

@@ -3,10 +3,8 @@
 use Prim.Native.Nat.{◌+◌, ◌≤◌, ◌-◌}
 use mathlib.Core.Path.{◌≡◌}
 use lib.ListN.{length, drop}
-use native.Mathlib.Omega.{arith}
 use Rattle.picture.specs.Text.{total}
 use Rattle.picture.specs.Title.{begins}
-use Rattle.picture.proofs.Walking.{total_next, total_none}
 use Rattle.picture.proofs.title.characters.Given as goal
 
 abbrev pub invariant-loop-i : goal.invariant-loop-i

@@ -1,12 +1,10 @@
 -- `well_formed` meets its contract. The invariant: from here the rest of the text leads where the whole text leads from
 -- its beginning. Assumes nothing.
 use Prim.Native.Nat.{◌≤◌, ◌-◌}
-use mathlib.Core.Path.{◌≡◌, ◌∙◌, refl, sym, ap}
+use mathlib.Core.Path.{◌≡◌}
 use lib.ListN.{length, drop}
-use native.Mathlib.Omega.{arith}
-use Rattle.picture.specs.Title.{after_all, is_whole}
+use Rattle.picture.specs.Title.{after_all}
 use Rattle.picture.specs.declared.title.Next.{Next}
-use Rattle.picture.proofs.Walking.{after_next, after_none}
 use Rattle.picture.proofs.title.well_formed.Given as goal
 
 abbrev pub invariant-loop-i : goal.invariant-loop-i

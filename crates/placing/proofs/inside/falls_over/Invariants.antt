@@ -1,7 +1,6 @@
 -- `falls_over` meets its contract: the invariant is that none of the steps up to p falls. Assumes nothing.
 use Prim.Native.Nat.{◌≤◌, ◌-◌}
-use native.Mathlib.Omega.{arith}
-use Rattle.placing.proofs.Falling.{NoneYet, none_more, found, not_found}
+use Rattle.placing.proofs.Falling.{NoneYet}
 use Rattle.placing.proofs.inside.falls_over.Given as goal
 
 abbrev pub invariant-loop-p : goal.invariant-loop-p

@@ -1,11 +1,8 @@
 -- `reach_over` meets its contract: the invariant is that both points are the extremes so far, up to p. Assumes nothing.
-use Prim.Native.Nat.{◌≤◌, ◌-◌}
-use mathlib.Core.Path.{◌≡◌}
-use borrow.Author.Rules.{rules}
 use borrow.Author.Tests.{ltb-true, ltb-false}
 use native.Mathlib.Omega.{arith}
-use Rattle.placing.specs.Reach.{Extreme, AtMost, AtLeast}
-use Rattle.placing.proofs.Widening.{one, widen}
+use Rattle.placing.specs.Reach.{AtMost, AtLeast}
+use Rattle.placing.proofs.Widening.{widen}
 use Rattle.placing.proofs.inside.reach_over.Goals as goal
 
 pub loop-p-preserved : goal.loop-p-preserved

@@ -1,10 +1,6 @@
 -- `reach_over` meets its contract: the invariant is that both points are the extremes so far, up to p. Assumes nothing.
 use Prim.Native.Nat.{◌≤◌, ◌-◌}
-use mathlib.Core.Path.{◌≡◌}
-use borrow.Author.Tests.{ltb-true, ltb-false}
-use native.Mathlib.Omega.{arith}
 use Rattle.placing.specs.Reach.{Extreme, AtMost, AtLeast}
-use Rattle.placing.proofs.Widening.{one, widen}
 use Rattle.placing.proofs.inside.reach_over.Given as goal
 
 abbrev pub invariant-loop-p : goal.invariant-loop-p

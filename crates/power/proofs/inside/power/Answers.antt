@@ -1,11 +1,10 @@
 -- `power` meets its contract. The invariant of each loop: from a and the rest of the exponent the definition makes the
 -- power, and a is at most what stands for 1. Assumes nothing.
 use mathlib.Core.Path.{◌≡◌, refl, sym, ap, ◌∙◌}
-use Prim.Native.Nat.{◌-◌, ◌≤◌}
-use native.Mathlib.Nat.{mul-le-mul, le_trans}
+use Prim.Native.Nat.{◌-◌}
+use native.Mathlib.Nat.{le_trans}
 use native.Mathlib.Omega.{arith}
-use borrow.Author.Rules.{rules}
-use Rattle.power.specs.Power.{whole_steps, root_steps, power}
+use Rattle.power.specs.Power.{root_steps, power}
 use Rattle.power.proofs.Steps.{root_turn, root_end, whole_turn, whole_end, whole_le}
 use Rattle.power.proofs.inside.power.Goals as goal
 

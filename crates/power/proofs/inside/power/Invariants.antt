@@ -1,11 +1,8 @@
 -- `power` meets its contract. The invariant of each loop: from a and the rest of the exponent the definition makes the
 -- power, and a is at most what stands for 1. Assumes nothing.
-use mathlib.Core.Path.{◌≡◌, refl, sym, ap, ◌∙◌}
-use Prim.Native.Nat.{◌-◌, ◌≤◌}
-use native.Mathlib.Nat.{mul-le-mul, le_trans}
-use native.Mathlib.Omega.{arith}
+use mathlib.Core.Path.{◌≡◌}
+use Prim.Native.Nat.{◌≤◌}
 use Rattle.power.specs.Power.{whole_steps, root_steps, power}
-use Rattle.power.proofs.Steps.{root_turn, root_end, whole_turn, whole_end, whole_le}
 use Rattle.power.proofs.inside.power.Given as goal
 
 abbrev pub invariant-loop-k : goal.invariant-loop-k

@@ -1,7 +1,4 @@
 -- `root_step` meets its contract, at each of its three ends. Assumes nothing.
-use native.Mathlib.Nat.{mul-le-mul}
-use native.Mathlib.Omega.{arith}
-use borrow.Author.Rules.{rules}
 use lib.Dec.{lit<}
 use Rattle.power.proofs.Steps.{next_one, next_zero, next_full}
 use Rattle.power.proofs.inside.root_step.Goals as goal

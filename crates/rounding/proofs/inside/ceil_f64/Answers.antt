@@ -1,8 +1,6 @@
 -- `ceil_f64` meets its promise: whether the floor lies below the float tells ceil from floor. Assumes nothing.
-use borrow.Author.Rules.{rules}
 use mathlib.Core.Bool.{true, false}
 use lib.Ieee.{binary64}
-use Rattle.ieee.proofs.Range.{in_float_lem}
 use Rattle.rounding.proofs.Cut.{ceil_gives}
 use Rattle.rounding.proofs.inside.ceil_f64.Goals as goal
 

@@ -1,5 +1,4 @@
 -- `floor_f32` meets its promise: an f64 holds the same number. Assumes nothing.
-use borrow.Author.Rules.{rules}
 use mathlib.Core.Path.{sym, subst}
 use mathlib.Core.Bool.{not}
 use lib.Dec.{T}

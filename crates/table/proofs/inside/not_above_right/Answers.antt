@@ -1,7 +1,6 @@
 -- `not_above_right` meets its contract: there is a right neighbour unless i is the last. Assumes nothing.
 use mathlib.Core.Path.{sym}
 use native.Mathlib.Omega.{arith}
-use borrow.Author.Rules.{rules}
 use Rattle.table.proofs.Order.{right_none, right_is}
 use Rattle.table.proofs.inside.not_above_right.Goals as goal
 

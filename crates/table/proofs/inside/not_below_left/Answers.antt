@@ -1,7 +1,6 @@
 -- `not_below_left` meets its contract: there is a left neighbour unless i is 0. Assumes nothing.
 use mathlib.Core.Path.{sym}
 use native.Mathlib.Omega.{arith}
-use borrow.Author.Rules.{rules}
 use Rattle.table.proofs.Order.{left_none, left_is}
 use Rattle.table.proofs.inside.not_below_left.Goals as goal
 
