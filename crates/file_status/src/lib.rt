@@ -45,7 +45,7 @@ fn status_of_text(files: &impl Files, path: &str) -> Status {
     }
 }
 
-// The path goes up to the 0 that ends it. One that is no text in UTF-8 names no file, since std opens none by it.
+// The path goes up to the 0 that ends it. One that is no text in UTF-8 names no file, since std takes only text.
 fn status_of(files: &impl Files, path: &[u8; PATH_MAX]) -> Status
     requires { Ended path.now }
 {

@@ -2,7 +2,7 @@
 // half of a buffer, which is filled again whenever it is used up. Output is gathered in the other half, and written
 // out when that is full and wherever `settled` is called: before the program may have to wait for input, so that
 // nobody waits for an answer. Each half uses 65,535 bytes, so that a count of them is any 16-bit number.
-ghost use Rattle.std.specs.Prelude.{◌≡◌, ◌<◌, ◌≤◌, IfOk};
+ghost use Rattle.std.specs.Prelude.{◌≡◌, ◌+◌, ◌*◌, ◌%◌, ◌^◌, ◌<◌, ◌≤◌};
 
 use crate::problems::{CANNOT_READ, LINE_TOO_LONG, wrong};
 use itoa::Buffer;
@@ -138,24 +138,17 @@ fn fail(host: HostRuntime, what: &str, why: Error) {
     let _ = eprintln!(host; "groat: {what}: {because}");
 }
 
-// What a read says that brought so many bytes. Where it failed, standard error says why.
-fn brought(host: HostRuntime, got: Result<usize, Error>) -> Input
-    requires { IfOk got (λ n. n ≤ 65535) }
-{
-    match got {
+// Reads into the first 65,535 places. Where that fails, standard error says why.
+fn read_into(io: &mut Streams) -> Input {
+    let host = io.host;
+    let mut input = host.stdin();
+    match input.read(&mut io.bytes[0..65535]) {
         Ok(n) => Input::Bytes(n as u16),
         Err(why) => {
             fail(host, "standard input", why);
             Input::Failed
         }
     }
-}
-
-// Reads into the first 65,535 places.
-fn read_into(io: &mut Streams) -> Input {
-    let mut input = io.host.stdin();
-    let got = input.read(&mut io.bytes[0..65535]);
-    brought(io.host, got)
 }
 
 // Whether a line that a terminal brought may have been cut. It comes by one read, with its line end after it, unless a
@@ -337,14 +330,18 @@ pub fn put_decimal(s: State, io: &mut Streams, n: u64) -> State {
 
 // How many hexadecimal digits a number is written with: as many as `width` says, or as it has where they are more.
 fn hex_width(n: u64, width: usize) -> usize
-    ensures { result ≤ 16 }
+    ensures most { result ≤ 16 }
+    ensures whole { n < 2 ^ (4 * result) }
 {
     let needed = (67 - n.leading_zeros() as usize) / 4;
     width.max(needed).clamp(1, 16)
 }
 
 // The last hexadecimal digit of a number.
-pub fn hex_digit(n: u64) -> u8 {
+pub fn hex_digit(n: u64) -> u8
+    ensures decimal { n % 16 < 10 → result ≡ 48 + n % 16 }
+    ensures letter { 10 ≤ n % 16 → result ≡ 87 + n % 16 }
+{
     let digit = (n % 16) as u8;
     if digit < 10 {
         return b'0' + digit;

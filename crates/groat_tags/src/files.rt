@@ -1,7 +1,7 @@
 // The tag read from a file and written to one. A file is written as a draft beside its place and renamed, so that what
 // stands there is always whole: the old file or the new one. A path of 4,096 bytes may be the beginning of a longer
-// one, cut off by its buffer: no file is begun under it here, and the system opens none. Nor does it open one by a path
-// with a 0 in it, and std none by a path that is no text in UTF-8.
+// one, cut off by its buffer: no file is begun under it here, and the system opens none. A path that is no text in UTF-8
+// names no file either, since std takes only text.
 use crate::tags::hold;
 use file_status::{Status, status_at};
 use groat_answers::{bytes, put_ok};
@@ -280,8 +280,8 @@ fn placed(host: HostRuntime, whole: bool, name: &[u8], path: &[u8]) -> bool {
     false
 }
 
-// Whether a file of which everything was written or not is on the disk. It is closed here. What the system says to
-// that std keeps to itself: what was written is on the disk before.
+// Whether a file is on the disk, of which everything was written or not. It is closed here, after that: whether the
+// system found fault with the closing, std does not say.
 fn is_stored(file: File, written: bool) -> bool {
     written && file.sync_all().is_ok()
 }
