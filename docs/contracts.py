@@ -240,7 +240,8 @@ def expression(items, path, bound):
     if items[:1] == ["λ"] and len(items) > 2 and isinstance(items[1], str):
         name = items[1].rstrip(".")
         return "λ", name, expression(items[2:], path, {*bound, name})
-    operators = {part for key, what in meanings(path).items() if "◌" in key and ":" in what for part in key.split("◌")}
+    known = meanings(path).items()
+    operators = {part for key, what in known if "◌" in key and ":" in what for part in key.split("◌")}
     atoms = []
     for item in items:
         if type(item) is list:

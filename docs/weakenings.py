@@ -17,7 +17,8 @@ PAGE, TRACE, TOLD = "docs/PROMISES.md", "docs/TRACE.md", "crates/lookup/proofs/L
 # How the check begins what it says.
 OF_LOOKUP, OF_BAKE = "lut_interp_linear16: its contract: ", "bg_bake: its contract: "
 OF_FACE = "its law of one answer, `bg_passthrough_one`: it"
-EXPORTED = r'#\[unsafe\(no_mangle\)\]\s+(pub extern "C" fn bg_bake\b)'
+KEPT = "#[unsafe(no_mangle)]"
+EXPORTED = rf'{re.escape(KEPT)}\s+(pub extern "C" fn bg_bake\b)'
 # What is left of a law's statement.
 REST = r"(?:(?!\n\S).)*"
 # A law of one answer over any contract, and the buffers that it can be of.
@@ -114,7 +115,11 @@ WEAKENINGS = [
         "`logged::take_back`: the ladder's numbers are 1, 2:",
         (LOGGED, r"LogPromise take_back", "LogPromise accept"),
     ),
-    ("an equality is another", "within: its contract: ", (TABLE, r"Rattle\.std\.specs\.Prelude(\.\{◌≡◌)", r"lib.Path\1")),
+    (
+        "an equality is another",
+        "within: its contract: ",
+        (TABLE, r"Rattle\.std\.specs\.Prelude(\.\{◌≡◌)", r"lib.Path\1"),
+    ),
     (
         "a promise of that name is another",
         "`lookup::lut_interp_linear16`: what stands under Definition",
@@ -170,7 +175,11 @@ WEAKENINGS = [
     ("its module does", "`lookup_one`: it asks", (LAWS, r"\n(pub lookup_one :)", r"\nmodule _ (h : ⊥) where\n  \1")),
     ("what it stands beneath does", "does not state it", (LAWS, r"\n(pub lookup_one :)", r"\nf h = few where\n  \1")),
     ("a law is a comment", "does not state it", (LAWS, r"\n(pub lookup_one :.*?\n)\n", r"\n{-\n\1-}\n")),
-    ("a law is of one answer twice", "both", law(rf"({REST}? → )(LookupPromise {REST}?) → {REST}", r"\1\2 → \2 → r ≡ r")),
+    (
+        "a law is of one answer twice",
+        "both",
+        law(rf"({REST}? → )(LookupPromise {REST}?) → {REST}", r"\1\2 → \2 → r ≡ r"),
+    ),
     ("a law is over another export's contract", f"{OF_FACE} is about", *over("bg_lut_interp_linear")),
     ("a law is of another buffer", f"{OF_FACE} does not end", *over("bg_passthrough_table_impl", buffer="second")),
     ("what the face's laws say is less", f"{OF_FACE} does not end", *over("bg_passthrough_table_impl", ends="r ≡ r")),
@@ -181,8 +190,8 @@ WEAKENINGS = [
         "rows/src: a `pub use`",
         more("crates/rows/src/lib.rt", "pub use lookup::{\n    inside::lookup as looked,\n};\n"),
     ),
-    ("comments hide an export", OF_BAKE, (LOOKUPS, EXPORTED, r"#[unsafe(no_mangle)]\n// a\n/* /* */ b */\n\1"), bake("C → C")),
-    ("an attribute hides an export", OF_BAKE, (LOOKUPS, EXPORTED, r"#[unsafe(no_mangle)] #[inline]\n\1"), bake("C → C")),
+    ("comments hide an export", OF_BAKE, (LOOKUPS, EXPORTED, rf"{KEPT}\n// a\n/* /* */ b */\n\1"), bake("C → C")),
+    ("an attribute hides an export", OF_BAKE, (LOOKUPS, EXPORTED, rf"{KEPT} #[inline]\n\1"), bake("C → C")),
     ("a function of the face is no export", "the face has exports alone", (LOOKUPS, EXPORTED, r"\1")),
     ("an export has no row", "`bg_more` has no row", more(LOOKUPS, MORE)),
     ("no edit tries an export", "can refuse, for bg_bake:", (f"{FACE}/must-fail/*.edit", r"# bg_bake:[^\n]*\n", "")),
