@@ -183,13 +183,12 @@ def meaning(name, path, bound):
     """A bound name is itself, and any other what it means, whatever it is called there. What follows such a name after
     full stops is its fields, the innermost first."""
     known, (first, *fields) = meanings(path), name.split(".")
-    modules = [at for at in range(len(fields), 0, -1) if ":" not in known.get(".".join([first, *fields[: at - 1]]), ":")]
+    heads = [".".join([first, *fields[:at]]) for at in range(len(fields))]
+    modules = [at for at, module in enumerate(heads) if ":" not in known.get(module, ":")]
     if first in bound or not modules:
-        whole = first if first in bound else known.get(first, first)
-    else:
-        at = modules[0]
-        whole, fields = f"{known['.'.join([first, *fields[: at - 1]])]}:{fields[at - 1]}", fields[at:]
-    return fields_of(whole, fields)
+        return fields_of(first if first in bound else known.get(first, first), fields)
+    at = modules[-1]
+    return fields_of(f"{known[heads[at]]}:{fields[at]}", fields[at + 1 :])
 
 
 def fields_of(tree, fields):

@@ -102,7 +102,7 @@ WEAKENINGS = [
     ),
     (
         "a contract turns an argument into something that the page does not tell",
-        "`power_curve::tag_power`: what stands under Definition is not what the tree gives, without `exponent_of`, with",
+        "`power_curve::tag_power`: what stands under Definition is not what the tree gives, without `exponent_of`,",
         (POWERS, r"(PowerPromise x )\(exponent_of gamma\)", r"\1(table_of gamma)"),
     ),
     (
