@@ -15,5 +15,5 @@ sum_program() { cksum <"$program"; }
 # Writes down that the program is what the sources as they stand and this kit make.
 note_built() {
     mkdir -p "$here/target"
-    { sum_sources && sum_program && rt version; } >"$built"
+    { sum_sources && sum_program && rt version </dev/null; } >"$built"
 }
