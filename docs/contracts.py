@@ -1,7 +1,7 @@
 """What docs/check-promises reads of the tree: functions and their contracts, laws of one answer, and whether such a law
 is about such a contract.
 
-An expression is a name, or a tuple: of a function and its arguments, of a field (`.entry`) and what has it, or of λ, a
+An expression is a name, or a tuple: of a function and its arguments, of a field (`.new`) and what has it, or of λ, a
 name and a body. A name that is not bound where it stands has its file before it, so that two names are equal only if
 they mean one thing.
 """
@@ -16,15 +16,20 @@ CARRIED, PART = (f"{FACE}/specs/Carried.antt:{name}" for name in ("Carried", "Pa
 # What the face turns an answer into its places by, or an argument before it hands it on.
 TURNS = ("crates/plain_answers/specs/Answers.antt:", "crates/table/specs/Answers.antt:")
 # What makes a record of its arguments: two of it are equal exactly if what they hold is.
-WRAPS = ("crates/curve/specs/Promises.antt:sittingOn", "crates/logged/specs/State.antt:loggedOn")
-# The equality that is meant.
-EQUAL = "mathlib.Core.Path:_≡_"
-# In a carried promise: the library's answer, which it is about.
-INNER = "•"
+WRAPS = ("crates/curve/specs/Promises.antt:sitting_on", "crates/logged/specs/State.antt:logged_on")
+# The equality that is meant, which the library hands on under these names.
+EQUAL = [f"{home}:◌≡◌" for home in ("mathlib.Core.Path", "Rattle.std.specs.Prelude", "Rattle.std.proofs.Common")]
+# The name that a contract gives the answer.
+ANSWER = "result"
+# A part of a name.
+PART_OF = r"[\w'′″·-]+"
+# In a carried promise: the library's answer, which it is about. In a contract as the checker reads it: the parameters
+# after the call.
+INNER, LATER = "•", "later"
 
 Function = namedtuple("Function", "path within name signature parameters lent clauses public exported span")
-# The answer's name, and either what it equals or what is promised of it.
-Contract = namedtuple("Contract", "answer equal promise")
+# What the answer equals, or what is promised of it.
+Contract = namedtuple("Contract", "equal promise")
 # The names that a law binds, its two premises, and the equalities that it ends in.
 Law = namedtuple("Law", "names first second ends")
 
@@ -106,7 +111,7 @@ def functions(path):
         own = re.findall(r"\w+", source[begun : found.start()])
         end = closing(source, source.index("(", found.end())) + 1
         clauses, last = [], None
-        while clause := re.compile(BETWEEN + r"\b(requires|ensures)\s*\{").match(source, end):
+        while clause := re.compile(BETWEEN + r"\b(requires|ensures)\b(?:\s+\w+)?\s*\{").match(source, end):
             last, end = last or clause.start(1), closing(source, clause.end() - 1) + 1
             clauses.append((clause[1], text(path)[clause.end() : end - 1]))
         last = last or re.compile(BETWEEN + r"(?=[{;])").match(source, end).end()
@@ -155,8 +160,7 @@ def definitions(path):
 @cache
 def home(module):
     """A module's file if it is ours, its name if it is not."""
-    module = re.sub(r"·(specs|proofs)\.\1\b", r".\1", module)
-    file = re.sub(r"^Rattle·(\w+)\.(specs|proofs)\.(\w+)$", r"crates/\1/\2/\3.antt", module)
+    file = re.sub(r"^Rattle\.(\w+)\.(specs|proofs)\.(\w+)$", r"crates/\1/\2/\3.antt", module)
     return file if os.path.exists(file) else module
 
 
@@ -176,12 +180,21 @@ def meanings(path):
 
 
 def meaning(name, path, bound):
-    """A bound name is itself, and any other what it means, whatever it is called there."""
-    known, (module, _, last) = meanings(path), name.rpartition(".")
-    whole = name if name in bound else f"{known[module]}:{last}" if module in known else known.get(name, name)
-    if last == "now" and whole not in ("now", "denote.Ref:now"):
-        raise Weak("its `now` is not what a reference holds")
-    return "now" if last == "now" else whole
+    """A bound name is itself, and any other what it means, whatever it is called there. What follows such a name after
+    full stops is its fields, the innermost first."""
+    known, (first, *fields) = meanings(path), name.split(".")
+    heads = [".".join([first, *fields[:at]]) for at in range(len(fields))]
+    modules = [at for at, module in enumerate(heads) if ":" not in known.get(module, ":")]
+    if first in bound or not modules:
+        return fields_of(first if first in bound else known.get(first, first), fields)
+    at = modules[-1]
+    return fields_of(f"{known[heads[at]]}:{fields[at]}", fields[at + 1 :])
+
+
+def fields_of(tree, fields):
+    for field in fields:
+        tree = f".{field}", tree
+    return tree
 
 
 class Braced(list):
@@ -226,16 +239,17 @@ def expression(items, path, bound):
     if items[:1] == ["λ"] and len(items) > 2 and isinstance(items[1], str):
         name = items[1].rstrip(".")
         return "λ", name, expression(items[2:], path, {*bound, name})
-    operators = {part for key, what in meanings(path).items() if "_" in key and ":" in what for part in key.split("_")}
+    known = meanings(path).items()
+    operators = {part for key, what in known if "◌" in key and ":" in what for part in key.split("◌")}
     atoms = []
     for item in items:
         if type(item) is list:
             atoms.append(expression(item, path, bound))
         elif isinstance(item, Braced) or item == "_" or item in operators:
             raise Weak(f"{'what is in braces' if isinstance(item, Braced) else f'`{item}`'} must not stand in it")
-        elif atoms and re.fullmatch(r"\.[\w′″-]+", item):
-            atoms[-1] = (item, atoms[-1])
-        elif re.fullmatch(r"[\w′″·-]+(?:\.[\w′″·-]+)*", item):
+        elif atoms and re.fullmatch(rf"(?:\.{PART_OF})+", item):
+            atoms[-1] = fields_of(atoms[-1], item[1:].split("."))
+        elif re.fullmatch(rf"{PART_OF}(?:\.{PART_OF})*", item):
             atoms.append(meaning(item, path, bound))
         else:
             raise Weak(f"`{item}` must not stand in it")
@@ -291,7 +305,7 @@ def bindings(items):
 def abbreviated(tree):
     """Where an expression's function is an abbreviation of the face's: its file, its names and its text."""
     path, _, name = str(head(tree)).rpartition(":")
-    found = stated(path, rf"{re.escape(name)}((?: [\w′″-]+)* =)") if path.startswith(f"{FACE}/specs/") else None
+    found = stated(path, rf"{re.escape(name)}((?: {PART_OF})* =)") if path.startswith(f"{FACE}/specs/") else None
     if not found or not isinstance(tree, tuple):
         return None
     own, _, body = found[0].partition("=")
@@ -335,31 +349,27 @@ def contract_of(function):
     """A function's contract, which has one strict form: nothing stands around it, and nothing beside it."""
     if [kind for kind, _ in function.clauses] != ["ensures"]:
         raise Weak("it must have one `ensures`, and no `requires`: test what it asks for, or move it into `inside`")
-    form = re.fullmatch(r"\s*λ (\w+)\. ⌜([^⌜⌝]*)⌝\s*", function.clauses[0][1])
-    if not form or form[1] == "_":
-        raise Weak("it must be `λ r. ⌜ .. ⌝`")
-    answer = form[1]
-    sides = parted(grouped(form[2]), "≡")
-    sides = [expression(side, function.path, {answer, *function.parameters}) for side in sides]
+    sides = parted(grouped(function.clauses[0][1]), "≡")
+    sides = [expression(side, function.path, {ANSWER, *function.parameters}) for side in sides]
     if len(sides) == 1:
-        contract = Contract(answer, None, normal(sides[0]))
-        strict = leaves(contract.promise).count(answer) == 1 and promises(contract.promise, answer)
+        contract = Contract(None, normal(sides[0]))
+        strict = leaves(contract.promise).count(ANSWER) == 1 and promises(contract.promise, ANSWER)
     else:
-        contract = Contract(answer, sides[1], None)
-        strict = len(sides) == 2 and sides[0] == answer and answer not in leaves(sides[1])
-        strict = strict and meanings(function.path).get("_≡_") == EQUAL
+        contract = Contract(sides[1], None)
+        strict = len(sides) == 2 and sides[0] == ANSWER and ANSWER not in leaves(sides[1])
+        strict = strict and meanings(function.path).get("◌≡◌") in EQUAL
     if not strict:
-        raise Weak("it must be `r ≡ ..`, `..Promise .. r ..`, `Carried .. r` or `PartCarried .. r` alone")
+        raise Weak("it must be `result ≡ ..`, `..Promise .. result ..`, `Carried .. result` or `PartCarried ..` alone")
     for leaf in leaves(contract.promise or contract.equal):
         path, _, name = leaf.rpartition(":")
-        plain = leaf in ("now", INNER, answer, *function.parameters) or leaf.startswith(".")
+        plain = leaf in (INNER, ANSWER, *function.parameters) or leaf.startswith(".")
         if not plain and not (path.startswith("crates/") and name in declared(path)):
             raise Weak(f"it says `{name}`, which is no definition of ours")
     for name in function.parameters:
-        if name not in leaves(contract[1:]):
+        if name not in leaves(contract):
             raise Weak(f"it says nothing of `{name}`")
     for name in function.lent:
-        if not holds(contract[1:], (".exit", name)):
+        if not holds(contract, (".new", name)):
             raise Weak(f"it does not say what `{name}`, which is lent for writing, holds after")
     return contract
 
@@ -382,7 +392,7 @@ def law_of(path, name):
         return normal(replaced(expression(items, path, {*names, *stands}), stands))
 
     parts = parted(items, "→")
-    if len(parts) != 3 or meanings(path).get("_≡_") != EQUAL or "_×_" in meanings(path):
+    if len(parts) != 3 or meanings(path).get("◌≡◌") not in EQUAL or "◌×◌" in meanings(path):
         raise Weak("it must go from two promises, and nothing more, to equalities")
     ends = []
     for part in parted(parts[2], "×"):
@@ -405,30 +415,30 @@ def matched(pattern, tree, names, found):
 
 def check_law(law, function, contract):
     """That a law says of two answers which keep a function's very contract that they and the later buffers are one."""
-    one, two, answer = {}, {}, contract.answer
-    promise, later = contract.promise, {name: (".exit", name) for name in function.lent}
+    one, two = {}, {}
+    promise, later = contract.promise, {name: (".new", name) for name in function.lent}
     crate, place = function.path.split("/")[1], ".".join([*function.within, function.name])
-    if head(law.first) == f"Rattle·{crate}.proofs.{place}.Reads:Post":
+    if head(law.first) == f"Rattle.{crate}.proofs.{place}.Reads:Post":
         # The contract as the checker reads it: of the lifetimes, the parameters, the answer, and the parameters after.
-        promise, later = (head(law.first), "κs", "a", answer, ".exit"), dict.fromkeys(function.lent, ".exit")
+        promise, later = (head(law.first), "κs", "a", ANSWER, LATER), dict.fromkeys(function.lent, LATER)
         for name in later:
             for _ in range(function.parameters.index(name)):
                 later[name] = (".1", later[name])
-            later[name] = (".0", later[name])
+            later[name] = (".now", (".0", later[name]))
     for premise, found in ((law.first, one), (law.second, two)):
         if not matched(premise, promise, law.names, found):
             raise Weak("it is about another promise than the contract's")
     for name in law.names:
         if name not in one and name not in two:
             raise Weak(f"it asks for `{name}`, of which its promises do not speak")
-        if name in one and name in two and (one[name] != two[name] or {answer, ".exit"} & set(leaves(one[name]))):
+        if name in one and name in two and (one[name] != two[name] or {ANSWER, ".new", LATER} & set(leaves(one[name]))):
             raise Weak(f"both its promises are of one `{name}`")
     ends = [(replaced(left, one), replaced(right, two)) for left, right in law.ends]
     for left, right in list(ends):
         if head(left) == head(right) in WRAPS and len(left) == len(right):
             ends += zip(left[1:], right[1:])
-    wanted = [("now", answer), (".ptr", answer)] if "-> &" in function.signature else [answer]
-    for part in wanted + [("now", after) for after in later.values()]:
+    wanted = [(".now", ANSWER), (".ref_ptr", ANSWER)] if "-> &" in function.signature else [ANSWER]
+    for part in [*wanted, *later.values()]:
         if (part, part) not in ends:
             what = "the answers" if part in wanted else f"`{' and '.join(later)}`"
             raise Weak(f"it does not end in the equality of {what}")
@@ -439,7 +449,7 @@ def check_carried(function, contract, routine, promised):
     said = contract.equal or contract.promise
     carried = head(said) == CARRIED
     names = dict(zip(routine.parameters, function.parameters))
-    names[promised.answer] = INNER if carried else contract.answer
+    names[ANSWER] = INNER if carried else ANSWER
 
     def same(tree, other):
         if isinstance(other, tuple) and len(other) == 2 and str(other[0]).startswith(TURNS) and other[1] == tree:

@@ -6,6 +6,7 @@ alone. Entry i is the n nearest to 65535·(i/1023)^2.5, so 2n+1 is the first odd
 Usage: docs/house.py. To see that the source has what the rule gives:
     docs/house.py | diff - <(sed -n '/^const/,/^];/p' crates/house/src/entries.rt)
 """
+import textwrap
 from math import isqrt
 
 
@@ -16,7 +17,8 @@ def entry(i):
     return n
 
 
+# As `rt fmt` lays them out, in 100 columns.
 print("const HOUSE: [u16; 1024] = [")
-for i in range(1024):
-    print(f"    {entry(i)},")
+entries = " ".join(f"{entry(i)}," for i in range(1024))
+print(textwrap.fill(entries, 100, initial_indent="    ", subsequent_indent="    "))
 print("];")

@@ -53,7 +53,8 @@ def whence(path, word):
 @cache
 def made_of(path, name):
     """The definitions of ours that a definition names."""
-    pairs = [whence(path, word) for word in re.findall(r"[^\s(){},;]+", definitions(path)[name])]
+    words = re.findall(r"[^\s(){},;]+", definitions(path)[name])
+    pairs = [whence(path, whole) for word in words for whole in dict.fromkeys((word, word.partition(".")[0]))]
     return [(path, word) for path, word in pairs if word in definitions(path)]
 
 
@@ -130,7 +131,7 @@ def laws_of_one_answer(crates):
     for crate in crates:
         for path in sorted(glob(f"crates/{crate}/proofs/*.antt")):
             for name in sorted(declared(path)):
-                if name.endswith("-one") and (law := law_or_none(path, name)):
+                if name.endswith("_one") and (law := law_or_none(path, name)):
                     yield path, name, law
 
 

@@ -16,29 +16,32 @@ LOGGED, POWERS = "crates/logged/src/lib.rt", "crates/power_curve/src/lib.rt"
 PAGE, TRACE, TOLD = "docs/PROMISES.md", "docs/TRACE.md", "crates/lookup/proofs/LookupLaws.antt"
 # How the check begins what it says.
 OF_LOOKUP, OF_BAKE = "lut_interp_linear16: its contract: ", "bg_bake: its contract: "
-OF_FACE = "its law of one answer, `bg-passthrough-one`: it"
-EXPORTED = r'#\[no_mangle\]\s+(pub extern "C" fn bg_bake\b)'
+OF_FACE = "its law of one answer, `bg_passthrough_one`: it"
+KEPT = "#[unsafe(no_mangle)]"
+EXPORTED = rf'{re.escape(KEPT)}\s+(pub extern "C" fn bg_bake\b)'
+# What is left of a law's statement.
+REST = r"(?:(?!\n\S).)*"
 # A law of one answer over any contract, and the buffers that it can be of.
-CONTRACT = """use mathlib.Core.Path.{_≡_}
-use denote.Ref.{now}
+CONTRACT = """use Rattle.std.specs.Prelude.{◌≡◌}
+use Rattle.std.specs.Borrow.{Bor}
 
 module _ {K A R E : Type 0} (Post : K → A → R → E → Type 0) where
   abbrev pub One : {S : Type 0} → (E → S) → Type 0
   One buffer = (κs : K) (a : A) (r s : R) (e f : E) → Post κs a r e → Post κs a s f → ENDS
 
-abbrev pub first : {S E : Type 0} → RefT S × E → S
-first e = now (e .0)
+abbrev pub first : {S E : Type 0} → Bor S × E → S
+first e = e.0.now
 
-abbrev pub second : {P S E : Type 0} → P × (RefT S × E) → S
-second e = now (e .1 .0)
+abbrev pub second : {P S E : Type 0} → P × (Bor S × E) → S
+second e = e.1.0.now
 """
 LEAK = "pub fn leak(x: u16) -> u16 {\n    x\n}\n"
-MORE = '#[no_mangle]\npub extern "C" fn bg_more(x: u16) -> u16\n    ensures { λ r. ⌜ r ≡ x ⌝ }\n{\n    x\n}\n'
+MORE = '#[unsafe(no_mangle)]\npub extern "C" fn bg_more(x: u16) -> u16\n    ensures { result ≡ x }\n{\n    x\n}\n'
 
 
 def contract(name):
     """A function's contract: what stands before it, the contract, what stands after."""
-    return rf"(fn {name}\b.*?⌜ )(.*?)( ⌝ \}})"
+    return rf"(fn {name}\b.*?\bensures \{{ )([^{{}}]*)( \}})"
 
 
 def put(path, name, form):
@@ -55,8 +58,8 @@ def lookup(form):
 
 
 def law(old, new):
-    """The law `lookup-one` stated in another way."""
-    return LAWS, f"pub lookup-one :{old}", f"pub lookup-one :{new}"
+    """The law `lookup_one` stated in another way."""
+    return LAWS, f"pub lookup_one :{old}", f"pub lookup_one :{new}"
 
 
 def told(name, end):
@@ -70,10 +73,10 @@ def more(path, added):
 
 def over(export, buffer="first", ends="(r ≡ s) × (buffer e ≡ buffer f)"):
     """The law of `bg_passthrough_table_impl` stated over an export's contract as the checker reads it."""
-    used = "use Rattle·brassgroat·specs.specs.Contract.{One, first, second}\n"
-    used += f"use Rattle·brassgroat·proofs.proofs.floats.{export}.Reads as it\n"
+    used = "use Rattle.brassgroat.specs.Contract.{One, first, second}\n"
+    used += f"use Rattle.brassgroat.proofs.floats.{export}.Reads as it\n"
     return [
-        (f"{FACE}/proofs/One.antt", r"\A(.*?\npub bg-passthrough-one :)[^\n]*", rf"{used}\1 One it.Post {buffer}"),
+        (f"{FACE}/proofs/One.antt", rf"\A(.*?\npub bg_passthrough_one :){REST}", rf"{used}\1 One it.Post {buffer}"),
         (f"{FACE}/specs/Contract.antt", None, CONTRACT.replace("ENDS", ends)),
     ]
 
@@ -85,44 +88,48 @@ WEAKENINGS = [
     ("an export's contract follows from itself", OF_BAKE, bake("C → C")),
     ("a routine's contract follows from itself", OF_LOOKUP, lookup("C → C")),
     ("something stands beside a contract", OF_LOOKUP, lookup("(C) × Unit")),
-    ("a contract is one of two", OF_BAKE, bake("(C) ⊎ (r ≡ r)")),
-    ("a contract holds of every answer", "within: its contract: ", put(TABLE, "within", "r ≡ r")),
-    ("a contract speaks of no answer", OF_LOOKUP, (LOOKUP, r"λ r\. (⌜.*?) r ⌝", r"λ _. \1 p ⌝")),
-    ("there are two contracts", OF_LOOKUP, lookup("C ⌝ } ensures { λ r. ⌜ C")),
-    ("a door asks for something", OF_LOOKUP, lookup("C ⌝ } requires { ⌜ p ≡ p")),
-    ("a contract leaves an argument out", OF_LOOKUP, (LOOKUP, r"(⌜ LookupPromise .*?\)\)) p", r"\1 0")),
-    ("a contract leaves the later buffer out", OF_BAKE, (LOOKUPS, r"(fn bg_bake\b[^⌝]*)\.exit", r"\1.entry")),
+    ("a contract is one of two", OF_BAKE, bake("(C) ⊎ (result ≡ result)")),
+    ("a contract holds of every answer", "within: its contract: ", put(TABLE, "within", "result ≡ result")),
+    ("a contract speaks of no answer", OF_LOOKUP, (LOOKUP, r"(LookupPromise table\.now p) result", r"\1 p")),
+    ("there are two contracts", OF_LOOKUP, lookup("C }\n    ensures { C")),
+    ("a door asks for something", OF_LOOKUP, lookup("C }\n    requires { p ≡ p")),
+    ("a contract leaves an argument out", OF_LOOKUP, (LOOKUP, r"(LookupPromise table\.now) p", r"\1 0")),
+    ("a contract leaves the later buffer out", OF_BAKE, (LOOKUPS, r"(fn bg_bake\b[^}]*out)\.new", r"\1.old")),
     (
         "a contract leaves one of three later states out",
         "log_nudge: its contract: ",
-        (LOGGED, r"(fn log_nudge\b[^⌝]*count) \.exit", r"\1 .entry"),
+        (LOGGED, r"(fn log_nudge\b[^}]*count)\.new", r"\1.old"),
     ),
     (
         "a contract turns an argument into something that the page does not tell",
-        "`power_curve::tag_power`: what stands under Definition is not what the tree gives, without `exponentOf`, with",
-        (POWERS, r"(PowerPromise x )\(exponentOf gamma\)", r"\1(tableOf gamma)"),
+        "`power_curve::tag_power`: what stands under Definition is not what the tree gives, without `exponent_of`,",
+        (POWERS, r"(PowerPromise x )\(exponent_of gamma\)", r"\1(table_of gamma)"),
     ),
     (
         "an export does not turn an argument as its routine does",
         "beside that of `power_curve::tag_power`",
-        (f"{FACE}/src/powers.rt", r"(fn bg_tag_power\b[^⌝]*)\(exponentOf gamma\)", r"\1gamma"),
+        (f"{FACE}/src/powers.rt", r"(fn bg_tag_power\b[^}]*)\(exponent_of gamma\)", r"\1gamma"),
     ),
     (
         "a contract is of another call's case",
         "`logged::take_back`: the ladder's numbers are 1, 2:",
-        (LOGGED, r"LogPromise takeBack", "LogPromise accept"),
+        (LOGGED, r"LogPromise take_back", "LogPromise accept"),
     ),
-    ("an equality is another", "within: its contract: ", (TABLE, r"mathlib\.Core\.Path(\.\{_≡_)", r"lib.Path\1")),
+    (
+        "an equality is another",
+        "within: its contract: ",
+        (TABLE, r"Rattle\.std\.specs\.Prelude(\.\{◌≡◌)", r"lib.Path\1"),
+    ),
     (
         "a promise of that name is another",
         "`lookup::lut_interp_linear16`: what stands under Definition",
-        (LOOKUP, r"(Rattle·lookup·specs\.specs\.)Promises(\.\{[^}]*LookupPromise)", r"\1Loose\2"),
+        (LOOKUP, r"(Rattle\.lookup\.specs\.)Promises(\.\{[^}]*LookupPromise)", r"\1Loose\2"),
         ("crates/lookup/specs/Loose.antt", None, "pub record LookupPromise : Type 0 where\n"),
     ),
     (
         "a contract changes an argument by what is not ours",
         "within: its contract: it says `suc`",
-        put(TABLE, "within", "r ≡ within low high (suc n)"),
+        put(TABLE, "within", "result ≡ within low high (suc n)"),
     ),
     (
         "a promise is not where the contract takes it from",
@@ -137,38 +144,42 @@ WEAKENINGS = [
     (
         "an export's arguments are swapped",
         "beside that of `rows::lut_interp_linear16_row`",
-        (LOOKUPS, r"(fn bg_lut_interp_linear16_row\b[^⌝]*?)table( \.[^⌝]*?)positions( \.)", r"\1positions\2table\3"),
+        (LOOKUPS, r"(fn bg_lut_interp_linear16_row\b[^}]*?)table(\.[^}]*?)positions(\.)", r"\1positions\2table\3"),
     ),
     # Laws of one answer that are about something else.
-    ("a law ends in something else", "`lookup-one`: it does not end", law(r"([^\n]*→ )[^\n]*", r"\1t ≡ t")),
-    ("a law ends in no equality", "`lookup-one`: it must end", law(r"([^\n]*→ )[^\n]*", r"\1Unit")),
+    ("a law ends in something else", "`lookup_one`: it does not end", law(rf"({REST}→ ){REST}", r"\1t ≡ t")),
+    ("a law ends in no equality", "`lookup_one`: it must end", law(rf"({REST}→ ){REST}", r"\1Unit")),
     (
         "a law leaves the buffer out",
-        "`row-one`: it does not end",
-        ("crates/rows/proofs/Promises.antt", r"(pub row-one :.*?→ )\(([^()]*)\) × \([^()]*\)", r"\1\2"),
+        "`row_one`: it does not end",
+        ("crates/rows/proofs/Promises.antt", r"(pub row_one :.*?→ )\(([^()]*)\) × \([^()]*\)", r"\1\2"),
     ),
     (
         "a law leaves the later state out",
-        "`log-one`: it does not end",
-        ("crates/logged/proofs/Promises.antt", r"(pub log-one :[^\n]*) × \(s′ ≡ s″\)", r"\1"),
+        "`log_one`: it does not end",
+        ("crates/logged/proofs/Promises.antt", rf"(pub log_one :{REST}) × \(s' ≡ s\'\'\)", r"\1"),
     ),
     (
         "a law has one of three buffers twice",
-        "`bg-log-nudge-one`: it does not end",
+        "`bg_log_nudge_one`: it does not end",
         (f"{FACE}/proofs/One.antt", r"(bg_log_nudge\.Post first second) third", r"\1 second"),
     ),
-    ("a law is over another promise", "`lookup-one`: it is about", law(r"([^\n]*)LookupPromise", r"\1OtherPromise")),
+    ("a law is over another promise", "`lookup_one`: it is about", law(rf"({REST})LookupPromise", r"\1OtherPromise")),
     (
         "an export's law is over another promise",
-        "`bg-invert-one`: it is about",
-        (PAGE, r"(\| `bg_bake` \| `rows::bake` \| )`bg-bake-one`", r"\1`bg-invert-one`"),
+        "`bg_invert_one`: it is about",
+        (PAGE, r"(\| `bg_bake` \| `rows::bake` \| )`bg_bake_one`", r"\1`bg_invert_one`"),
     ),
-    ("a law has a third premise", "`lookup-one`: it must go", law(r"((?: \{[^}]*\})+ → )", r"\1length t ≡ 0 → ")),
-    ("a law asks for the impossible", "`lookup-one`: it asks", law("", " {h : ⊥}")),
-    ("its module does", "`lookup-one`: it asks", (LAWS, r"\n(pub lookup-one :)", r"\nmodule _ (h : ⊥) where\n  \1")),
-    ("what it stands beneath does", "does not state it", (LAWS, r"\n(pub lookup-one :)", r"\nf h = few where\n  \1")),
-    ("a law is a comment", "does not state it", (LAWS, r"\n(pub lookup-one :.*?\n)\n", r"\n{-\n\1-}\n")),
-    ("a law is of one answer twice", "both", law(r"(.*? → )(LookupPromise [^\n]*?) → [^\n]*", r"\1\2 → \2 → r ≡ r")),
+    ("a law has a third premise", "`lookup_one`: it must go", law(r"((?: \{[^}]*\})+ → )", r"\1length t ≡ 0 → ")),
+    ("a law asks for the impossible", "`lookup_one`: it asks", law("", " {h : ⊥}")),
+    ("its module does", "`lookup_one`: it asks", (LAWS, r"\n(pub lookup_one :)", r"\nmodule _ (h : ⊥) where\n  \1")),
+    ("what it stands beneath does", "does not state it", (LAWS, r"\n(pub lookup_one :)", r"\nf h = few where\n  \1")),
+    ("a law is a comment", "does not state it", (LAWS, r"\n(pub lookup_one :.*?\n)\n", r"\n{-\n\1-}\n")),
+    (
+        "a law is of one answer twice",
+        "both",
+        law(rf"({REST}? → )(LookupPromise {REST}?) → {REST}", r"\1\2 → \2 → r ≡ r"),
+    ),
     ("a law is over another export's contract", f"{OF_FACE} is about", *over("bg_lut_interp_linear")),
     ("a law is of another buffer", f"{OF_FACE} does not end", *over("bg_passthrough_table_impl", buffer="second")),
     ("what the face's laws say is less", f"{OF_FACE} does not end", *over("bg_passthrough_table_impl", ends="r ≡ r")),
@@ -179,8 +190,8 @@ WEAKENINGS = [
         "rows/src: a `pub use`",
         more("crates/rows/src/lib.rt", "pub use lookup::{\n    inside::lookup as looked,\n};\n"),
     ),
-    ("comments hide an export", OF_BAKE, (LOOKUPS, EXPORTED, r"#[no_mangle]\n// a\n/* /* */ b */\n\1"), bake("C → C")),
-    ("an attribute hides an export", OF_BAKE, (LOOKUPS, EXPORTED, r"#[no_mangle] #[inline]\n\1"), bake("C → C")),
+    ("comments hide an export", OF_BAKE, (LOOKUPS, EXPORTED, rf"{KEPT}\n// a\n/* /* */ b */\n\1"), bake("C → C")),
+    ("an attribute hides an export", OF_BAKE, (LOOKUPS, EXPORTED, rf"{KEPT} #[inline]\n\1"), bake("C → C")),
     ("a function of the face is no export", "the face has exports alone", (LOOKUPS, EXPORTED, r"\1")),
     ("an export has no row", "`bg_more` has no row", more(LOOKUPS, MORE)),
     ("no edit tries an export", "can refuse, for bg_bake:", (f"{FACE}/must-fail/*.edit", r"# bg_bake:[^\n]*\n", "")),
@@ -200,13 +211,13 @@ WEAKENINGS = [
     ("the face is called a program", "is the face", (PAGE, "no blocks:", "no blocks: `brassgroat`;")),
     # Made lines that are not what the tree gives, and markers that tell nothing.
     ("a made line is cut by hand", "Must fail is not what", (PAGE, r"(Must fail\*\*: )`constant_lookup`, ", r"\1")),
-    ("a law is told otherwise", "under Laws is not what", (PAGE, r"(lookup-never-falls`: )In", r"\1Not in")),
+    ("a law is told otherwise", "under Laws is not what", (PAGE, r"(lookup_never_falls`: )In", r"\1Not in")),
     ("a signature is another", "`rows::bake`: its signature", (PAGE, r"    pub fn bake\(", "    pub fn baked(")),
     ("a made line stands elsewhere", "--write", (PAGE, r"(\n- \*\*Tried[^\n]*)(\n- [^\n]*)", r"\2\1")),
-    ("a law loses its marker", "under Laws is not what the tree gives, without", told("lookup-reaches", ".")),
-    ("a marker names no call", "[lookup::gone], which is no call", told("lookup-reaches", ". [lookup::gone]")),
-    ("a marker stands above no law", "stands above no law", (TOLD, r"(\]\n)(pub lookup-reaches )", r"\1\n\2")),
-    ("a marker has no sentence", "comment with a full stop", told("lookup-demand", " [lookup::lut_interp_linear16]")),
+    ("a law loses its marker", "under Laws is not what the tree gives, without", told("lookup_reaches", ".")),
+    ("a marker names no call", "[lookup::gone], which is no call", told("lookup_reaches", ". [lookup::gone]")),
+    ("a marker stands above no law", "stands above no law", (TOLD, r"(\]\n)(pub lookup_reaches )", r"\1\n\2")),
+    ("a marker has no sentence", "comment with a full stop", told("lookup_demand", " [lookup::lut_interp_linear16]")),
     (
         "an edit changes a text that is not there",
         "what it changes is not in crates/lookup/src/lib.rt",
@@ -219,7 +230,7 @@ WEAKENINGS = [
     ("a routine of the oracle is not named", "no block is tried by routine 4", (PAGE, "oracle 4;", "nothing;")),
     # Pages that cite what is not there.
     ("an edit that is gone is cited", "`gone`", more(TRACE, "lookup/must-fail `gone`\n")),
-    ("a law that is gone is cited", "`gone`", more(TRACE, "table/proofs/Order `fact-test`,\n  `gone`\n")),
+    ("a law that is gone is cited", "`gone`", more(TRACE, "table/proofs/Order `fact_test`,\n  `gone`\n")),
     ("a field that is gone is cited", "`gone`", more(TRACE, "least/specs/Demand `LeastIs` (the\n  field `gone`)\n")),
     ("a run that is gone is cited", "tests/gone.txt, which", more(TRACE, "tests/gone.txt\n")),
     ("a run's words that are gone are cited", 'for "gone"', more(TRACE, 'tests/log.txt, "gone"\n')),

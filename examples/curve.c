@@ -2,8 +2,8 @@
  * A morning at the lab, in C: a curve arrives as an ICC tag, the operator nudges a point, overshoots and takes that
  * back, the day's jobs read the curve, and it goes back into a tag. From the project's root:
  *
- *     rt staticlib brassgroat
- *     cc -Iinclude -o target/curve examples/curve.c target/staticlib/libbrassgroat.a && target/curve
+ *     (cd crates/brassgroat && rt lib)
+ *     cc -Iinclude -o target/curve examples/curve.c crates/brassgroat/out/libbrassgroat.a && target/curve
  */
 #include <brassgroat.h>
 

@@ -4,8 +4,9 @@
  * Every call is proved to keep its promise (crates/brassgroat, and the crates that the headings name).
  *
  * A program links libbrassgroat.a, which is for x86-64 Linux and needs no other library. A release has it in lib/. In
- * the project `rt staticlib brassgroat` proves it and writes it into target/staticlib, and `./install PREFIX` puts it
- * into PREFIX/lib. Where PKG_CONFIG_PATH names the release's lib/pkgconfig or PREFIX/lib/pkgconfig:
+ * the project `rt lib`, run in crates/brassgroat, proves it and writes it into crates/brassgroat/out, and
+ * `./install PREFIX` puts it into PREFIX/lib. Where PKG_CONFIG_PATH names the release's lib/pkgconfig or
+ * PREFIX/lib/pkgconfig:
  *
  *     cc -o program program.c $(pkg-config --cflags --libs brassgroat)
  *

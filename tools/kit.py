@@ -1,6 +1,5 @@
-"""What the tools share: their words, where the repository is, and `rt dev` run on a crate, with what it printed."""
+"""What the tools share: their words, where the repository is, and `rt check` run in a crate, with what it printed."""
 import argparse
-import os
 import pathlib
 import shutil
 import subprocess
@@ -22,17 +21,16 @@ def stop(message):
     sys.exit(2)
 
 
-def dev(crate, *words):
-    """Runs `rt dev CRATE WORDS..` at the repository's root: what it printed, no line cut, and its status."""
+def check(crate, *words):
+    """Runs `rt check WORDS..` in a crate's folder: what it printed, and its status."""
     if not shutil.which("rt"):
         stop("no 'rt' on the PATH: install the Rattle kit that README.md names")
-    listed = [line.split(":")[0].strip() for line in (ROOT / "crates.txt").read_text().splitlines()]
-    if crate not in listed or crate.startswith("#"):
+    listed = [line.split(":")[0].split() for line in (ROOT / "crates.txt").read_text().splitlines()]
+    if crate not in [words[0] for words in listed if words]:
         stop(f"crates.txt lists no crate '{crate}'")
     run = subprocess.run(
-        ["rt", "dev", crate, *words],
-        cwd=ROOT,
-        env={**os.environ, "RT_CUT": "0"},
+        ["rt", "check", *words],
+        cwd=ROOT / "crates" / crate,
         stdout=subprocess.PIPE,
         stderr=subprocess.STDOUT,
         encoding="utf-8",
@@ -41,7 +39,7 @@ def dev(crate, *words):
 
 
 def blocks(printed):
-    """What `rt dev` printed as pairs: a line that begins at the margin, and the indented lines that go with it."""
+    """What `rt check` printed as pairs: a line that begins at the margin, and the indented lines that go with it."""
     found = []
     for line in printed.splitlines():
         if line and not line.startswith(" "):

@@ -2,7 +2,7 @@
 //!
 //! 1. the folder that BRASSGROAT_LIB_DIR names; a relative one is taken from where cargo was started;
 //! 2. ../lib, where a release has it beside this crate;
-//! 3. ../../target/staticlib, where `rt staticlib brassgroat` writes it in the project.
+//! 3. ../../crates/brassgroat/out, where `rt lib` in crates/brassgroat writes it in the project.
 //!
 //! A folder that is named and lacks the archive is an error. Where none is named and the archive is in neither place,
 //! that is a warning: the crate can still be checked and documented. face/release-test tries all of this.
@@ -11,7 +11,7 @@ use std::ffi::OsString;
 use std::path::PathBuf;
 
 const ARCHIVE: &str = "libbrassgroat.a";
-const PLACES: [&str; 2] = ["../lib", "../../target/staticlib"];
+const PLACES: [&str; 2] = ["../lib", "../../crates/brassgroat/out"];
 
 fn main() {
     println!("cargo::rerun-if-env-changed=BRASSGROAT_LIB_DIR");
@@ -36,7 +36,7 @@ fn main() {
     } else {
         println!(
             "cargo::warning=no {ARCHIVE} to link: take this crate from a release, which has it beside the crate, or \
-             run `rt staticlib brassgroat` in the project's root, or name its folder in BRASSGROAT_LIB_DIR"
+             run `rt lib` in the project's crates/brassgroat, or name its folder in BRASSGROAT_LIB_DIR"
         );
     }
 }

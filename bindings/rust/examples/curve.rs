@@ -1,6 +1,6 @@
 //! A morning at the lab, in Rust: a curve arrives as an ICC tag, the operator nudges a point, overshoots and takes that
 //! back, the day's jobs read the curve, and it goes back into a tag. It prints what examples/curve.c does. In the
-//! crate's folder, once the archive is there (in the project: after `rt staticlib brassgroat` in its root):
+//! crate's folder, once the archive is there (in the project: after `rt lib` in its crates/brassgroat):
 //!
 //! ```text
 //! cargo run --example curve

@@ -75,9 +75,9 @@
 //! # The archive
 //!
 //! The calls are in libbrassgroat.a, for x86-64 Linux. A release has it beside this crate, in ../lib. In the project
-//! `rt staticlib brassgroat`, run in the project's root, proves the library and writes it into target/staticlib. The
-//! build finds it in either place. Where the environment variable `BRASSGROAT_LIB_DIR` names a folder, the build takes
-//! it from there and nowhere else; a relative folder is taken from where cargo was started, as `PWD` says.
+//! `rt lib`, run in crates/brassgroat, proves the library and writes it into crates/brassgroat/out. The build finds it
+//! in either place. Where the environment variable `BRASSGROAT_LIB_DIR` names a folder, the build takes it from there
+//! and nowhere else; a relative folder is taken from where cargo was started, as `PWD` says.
 //!
 //! An archive that was not made with this crate may have other structs, or logs of another length: compare [`version`]
 //! with [`VERSION`] first.
