@@ -204,7 +204,7 @@ def law_items(place, laws, first):
 def changes(path):
     """The texts that an edit changes: a file, and where the text stands in it; none if it stands nowhere."""
     crate, file, later = path.split("/")[1], None, {}
-    for key, value in re.findall(r"(?m)^(file|old|new): (.*)", text(path)):
+    for key, value in re.findall(r"(?m)^(file|old|new): ?(.*)", text(path)):
         if key == "file":
             file = f"crates/{crate}/{value.strip()}"
             later.setdefault(file, text(file) if os.path.exists(file) else "")
