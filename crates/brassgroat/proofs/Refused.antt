@@ -28,7 +28,8 @@ use Rattle.plain_answers.specs.declared.Count.{Count}
 use Rattle.brassgroat.specs.declared.curv_tags.Part.{Part}
 use Rattle.plain_answers.specs.declared.Para.{Para}
 use Rattle.brassgroat.specs.Carried.{Carried, PartCarried}
-use Rattle.plain_answers.specs.Answers.{as_sample, as_position, as_code, as_real, as_parametric, as_monotony, as_degeneration}
+use Rattle.plain_answers.specs.Answers.{as_sample, as_position, as_code, as_real, as_parametric, as_monotony}
+use Rattle.plain_answers.specs.Answers.{as_degeneration}
 use Rattle.plain_answers.specs.Answers.{as_count, as_para}
 use Rattle.brassgroat.proofs.Parts.{part_refused}
 use Rattle.brassgroat.proofs.One.{part_carried_one}
@@ -114,7 +115,8 @@ pub parametric_refused : {promise : Unified → Type 0} {r : Parametric} → Car
     → (r.refusal ≡ 0 → ⊥) → r ≡ bare_parametric r.refusal
 parametric_refused = bare_refused (λ (x : Parametric). x.refusal) bare_parametric each
   where
-    each : (l : Unified) → ((as_parametric l).refusal ≡ 0) ⊎ (as_parametric l ≡ bare_parametric (as_parametric l).refusal)
+    each : (l : Unified) → ((as_parametric l).refusal ≡ 0) ⊎ (as_parametric l
+        ≡ bare_parametric (as_parametric l).refusal)
     each (Unified.Curve c) = inl refl
     each (Unified.Refused why) = inr refl
 

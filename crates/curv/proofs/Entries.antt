@@ -7,7 +7,7 @@ use lib.ListN.{length, get_or, get_or-eq_default}
 use Rattle.table.specs.Fill.{tabulated}
 use Rattle.table.specs.Order.{SixteenBits}
 use Rattle.table.proofs.Choice.{below?}
-use Rattle.table.proofs.Fill.{length_tabulated, get_d_tabulated}
+use Rattle.table.proofs.Fill.{length_tabulated, get_or_tabulated}
 use Rattle.icc.specs.Bytes.{EightBits}
 use Rattle.icc.proofs.Numbers.{below16}
 use Rattle.curv.specs.Tag.{entry_at}
@@ -18,7 +18,7 @@ unfolding entry_at
 entries_wide b w n i = ⊎_elim inside outside (below? i n)
   where
     inside : i < n → get_or (tabulated (entry_at b) n) i 0 < 65536
-    inside h = rw (get_d_tabulated (entry_at b) n i 0 h) (below16 b w (12 + 2 * i))
+    inside h = rw (get_or_tabulated (entry_at b) n i 0 h) (below16 b w (12 + 2 * i))
 
     outside : n ≤ i → get_or (tabulated (entry_at b) n) i 0 < 65536
     outside h =

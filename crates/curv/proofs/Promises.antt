@@ -59,7 +59,8 @@ module _ (b : List ℕ) where
         }
 
 -- The promise names one answer.
-same_counted : (r s : Counted) → number_of_counted r ≡ number_of_counted s → value_of_counted r ≡ value_of_counted s → r ≡ s
+same_counted : (r s : Counted) → number_of_counted r ≡ number_of_counted s
+    → value_of_counted r ≡ value_of_counted s → r ≡ s
 same_counted (Counted.Entries m) (Counted.Entries n) e v = ap Counted.Entries v
 same_counted (Counted.Entries m) (Counted.Refused b) e v = absurd (omega (arith, number_above b))
 same_counted (Counted.Refused a) (Counted.Entries n) e v = absurd (omega (arith, number_above a))

@@ -56,6 +56,7 @@ granted_part {tag} e p = (
 )
 
 -- The promise names one part and one number.
-pub part_one : {tag part other : Bor (List ℕ)} {why' why'' : ℕ} → PartPromise tag part why' → PartPromise tag other why''
+pub part_one : {tag part other : Bor (List ℕ)} {why' why'' : ℕ} → PartPromise tag part why'
+    → PartPromise tag other why''
     → (why' ≡ why'') × (part.now ≡ other.now) × (part.ref_ptr ≡ other.ref_ptr)
 part_one p q = (p.number ∙ sym q.number, p.bytes ∙ sym q.bytes, p.place ∙ sym q.place)

@@ -41,7 +41,11 @@ module _ (b out : List ℕ) where
       → out' ≡ tabulated (entry_at b) (length out) → ReadPromise b out Done.Yes out'
   read_granted out' e n f =
       let g : read_verdict b out ≡ granted = rw (e, eq-eqb _ _ n) refl in
-      record { number = verdict_number g; after = f ∙ ap (tabulated (entry_at b)) n ∙ verdict_gives (entries_of b) out g }
+      record {
+        number = verdict_number g;
+        after = f ∙ ap (tabulated (entry_at b)) n ∙ verdict_gives (entries_of b)
+            out g;
+      }
 
   -- A granted read had a tag that passes the tests and a buffer of its count, which then holds its entries.
   -- [curv_reader::read_curv]

@@ -11,7 +11,7 @@ use Rattle.table.specs.Sizes.{spanned}
 use Rattle.table.specs.Order.{Nondecreasing, SixteenBits}
 use Rattle.table.proofs.Choice.{below?}
 use Rattle.table.proofs.Sizes.{within_low}
-use Rattle.table.proofs.Fill.{length_tabulated, get_d_tabulated}
+use Rattle.table.proofs.Fill.{length_tabulated, get_or_tabulated}
 use Rattle.curve.specs.Ramp.{ramp, ramp_of}
 
 module _ (n : ℕ) (h : spanned n ≡ true) where
@@ -44,14 +44,14 @@ module _ (n : ℕ) (h : spanned n ≡ true) where
   pub ramp_order : Nondecreasing (ramp_of n)
   ramp_order i j ij l =
       let m : j < n = subst (λ (k : ℕ). j < k) (length_tabulated (ramp n) n) l in
-      omega (arith, get_d_tabulated (ramp n) n i 0 (omega arith), get_d_tabulated (ramp n) n j 0 m, ramp_rises i j ij)
+      omega (arith, get_or_tabulated (ramp n) n i 0 (omega arith), get_or_tabulated (ramp n) n j 0 m, ramp_rises i j ij)
 
   -- As a table the straight curve is 16 bits wide. [curve::start]
   pub ramp_bits : SixteenBits (ramp_of n)
   ramp_bits i = ⊎_elim inside beyond (below? i n)
     where
       inside : i < n → get_or (ramp_of n) i 0 < 65536
-      inside l = omega (arith, get_d_tabulated (ramp n) n i 0 l, ramp_fits i l)
+      inside l = omega (arith, get_or_tabulated (ramp n) n i 0 l, ramp_fits i l)
 
       beyond : n ≤ i → get_or (ramp_of n) i 0 < 65536
       beyond l =

@@ -59,7 +59,8 @@ module _ (t : List ℕ) where
   -- the answer that the promise names
   unfoldable pub degenerated_answer : Degenerated
   degenerated_answer =
-      pick (not_above (length t)) (pick (degenerated t) Degenerated.Yes Degenerated.No) (Degenerated.Refused TableLength)
+      pick (not_above (length t)) (pick (degenerated t) Degenerated.Yes Degenerated.No) (Degenerated.Refused
+      TableLength)
 
   -- The promise can be kept. [degeneration::is_curve_degenerated]
   pub degenerated_answered : DegeneratedPromise t degenerated_answer

@@ -1,7 +1,7 @@
 // The tag read from a file and written to one. A file is written as a draft beside its place and renamed, so that what
 // stands there is always whole: the old file or the new one. A path of 4,096 bytes may be the beginning of a longer
-// one, cut off by its buffer: no file is begun under it here, and the system opens none. A path that is no text in UTF-8
-// names no file either, since std takes only text.
+// one, cut off by its buffer: no file is begun under it here, and the system opens none. A path that is no text in
+// UTF-8 names no file either, since std takes only text.
 use crate::tags::hold;
 use file_status::{Status, status_at};
 use groat_answers::{bytes, put_ok};

@@ -4,7 +4,7 @@ use mathlib.Core.List.{List}
 use Prim.Native.Nat.{ℕ}
 use lib.ListN.{get_or}
 use Rattle.table.specs.Fill.{tabulated}
-use Rattle.table.proofs.Fill.{length_tabulated, get_d_tabulated}
+use Rattle.table.proofs.Fill.{length_tabulated, get_or_tabulated}
 use Rattle.house.specs.House.{IsHouse}
 
 -- entry by entry
@@ -16,5 +16,5 @@ copied t out e p =
     rw e
     (record {
       size = length_tabulated (entry_of t) 1024;
-      rule = λ k l. rw (get_d_tabulated (entry_of t) 1024 k 0 l) (p.rule k l);
+      rule = λ k l. rw (get_or_tabulated (entry_of t) 1024 k 0 l) (p.rule k l);
     })

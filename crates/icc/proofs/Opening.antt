@@ -12,7 +12,8 @@ use Rattle.icc.proofs.Numbers.{length_bytes32, be32_bytes, bytes_be32}
 -- The reserved bytes make 0 exactly if each of them is 0.
 module _ (b : List ℕ) where
   -- Where the reserved bytes make 0, each of them is 0. [icc]
-  pub reserved_each : reserved_of b ≡ 0 → (get_or b 4 0 ≡ 0) × (get_or b 5 0 ≡ 0) × (get_or b 6 0 ≡ 0) × (get_or b 7 0 ≡ 0)
+  pub reserved_each : reserved_of b ≡ 0 → (get_or b 4 0 ≡ 0) × (get_or b 5 0 ≡ 0) × (get_or b 6 0 ≡ 0)
+      × (get_or b 7 0 ≡ 0)
   unfolding be32
   reserved_each e = (omega arith, omega arith, omega arith, omega arith)
 

@@ -8,7 +8,7 @@ use native.Mathlib.Omega.{arith}
 use lib.ListN.{length, get_or, take, drop, length-append}
 use lib.Seq.{sets, length-sets, take-add, take_all, take-suc, drop-drop, ext_get_or}
 use Rattle.table.specs.Fill.{tabulated}
-use Rattle.table.proofs.Fill.{length_tabulated, get_d_tabulated}
+use Rattle.table.proofs.Fill.{length_tabulated, get_or_tabulated}
 use Rattle.icc.specs.Bytes.{EightBits, be16, be32, bytes16, bytes32}
 use Rattle.icc.specs.Words.{in_turn}
 use Rattle.icc.proofs.Numbers.{length_bytes16, length_bytes32, be16_bytes, be32_bytes, bytes_be16, bytes_be32}
@@ -63,7 +63,7 @@ module _ {wide : ℕ} {be : List ℕ → ℕ → ℕ} {bytes : ℕ → List ℕ}
       let long = length_tabulated f (length l) in
       ext_get_or 0 (tabulated f (length l)) l long (λ i h.
       let below : i < length l = omega arith in
-      get_d_tabulated f (length l) i 0 below ∙ word_back l p k i e below)
+      get_or_tabulated f (length l) i 0 below ∙ word_back l p k i e below)
 
   -- The bytes of the n numbers that are read after byte k are the bytes that stand there. [icc]
   pub words_kept : (b : List ℕ) → EightBits b → (k n : ℕ) → k + wide * n ≤ length b

@@ -88,7 +88,8 @@ plus_no_nan f (fin s m e) (fin t n d) F h = go (beq s t) (ltb a b)
     c = down e * down d
 
     go : (u v : Bool)
-        → is_nan (cond u (round f s (a + b) c) (cond v (round f t (b - a) c) (round f (s && ltb b a) (a - b) c))) ≡ false
+        → is_nan (cond u (round f s (a + b) c) (cond v (round f t (b - a) c) (round f (s && ltb b a) (a - b) c)))
+        ≡ false
     go true v = round_no_nan f s (a + b) c
     go false true = round_no_nan f t (b - a) c
     go false false = round_no_nan f (s && ltb b a) (a - b) c
@@ -215,7 +216,8 @@ upto_bounded p (fin s m e) u = bounded_of p (fin s m e) (tt, u.1)
 
 pub whole_bounded : (f : Format) (k : ℕ) → k ≤ 65536 → Bounded k (float_in f k)
 whole_bounded f k h =
-    bounded_of k (float_in f k) (value_within (float_in f k) false k 1 k 1 (pow_pos 0) (whole_of f k h) (le_refl (k * 1)))
+    bounded_of k (float_in f k) (value_within (float_in f k) false k 1 k 1 (pow_pos 0) (whole_of f k h) (le_refl (k
+    * 1)))
 
 pub round_bounded : (f : Format) (s : Bool) (a c p : ℕ) → 0 < c → p ≤ 2 ^ prec f → a ≤ p * c → Bounded p (round f s a c)
 round_bounded f s a c p C P h =

@@ -19,7 +19,8 @@ use Rattle.inverse.specs.declared.inside.Found.{Found}
 use Rattle.inverse.specs.declared.inside.Found.TheVariants.{Hit, Missed}
 use Rattle.inverse.specs.Inside.{Ready}
 use Rattle.inverse_tail.specs.Tail.{tail}
-use Rattle.inverse_start.specs.Start.{leading_zeros, trailing_tops, zero_at_once, first_left, first_right, left_of, right_of}
+use Rattle.inverse_start.specs.Start.{leading_zeros, trailing_tops, zero_at_once, first_left, first_right}
+use Rattle.inverse_start.specs.Start.{left_of, right_of}
 use Rattle.inverse.specs.Inverse.{searched, settled, inverted}
 use Rattle.inverse_start.proofs.Runs.{zeros_le, zero_entry, runs_part}
 use Rattle.inverse_start.proofs.Start.{left_some, left_quotient_low, right_high, right_above, left_zero}
@@ -145,4 +146,5 @@ module _ (t : List ℕ) (h : sized (length t) ≡ true) (v : ℕ) where
           → pick a 0 (pick b 0 (settled t v (searched t v (left_of t) (right_of t)))) ≤ 65535
       go true b e = zero-le
       go false true e = zero-le
-      go false false e = settled_fits (searched t v (left_of t) (right_of t)) (sound (leb-false (right_of t) (left_of t) e))
+      go false false e = settled_fits (searched t v (left_of t) (right_of t)) (sound (leb-false (right_of t)
+          (left_of t) e))

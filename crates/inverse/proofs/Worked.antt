@@ -15,7 +15,8 @@ use Rattle.inverse.specs.Inverse.{search, searched, inverted}
 
 -- the inverse of each of a list of values
 each : List ℕ → List ℕ → List ℕ
-unfolding inverted searched search first_right first_left zero_at_once trailing_tops leading_zeros run tail between rounded
+unfolding inverted searched search first_right first_left zero_at_once trailing_tops leading_zeros run tail between
+    rounded
     node_of cell_of abs ceil floor lookup16 weighted of_int round neg add sub mul div lt le
 each t [] = []
 each t (v ∷ l) = inverted t v ∷ each t l

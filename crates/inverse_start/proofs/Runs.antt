@@ -8,16 +8,17 @@ use native.Mathlib.Omega.{arith}
 use lib.ListN.{length, get_or, length-reverse}
 use Rattle.table.specs.Runs.{run}
 use Rattle.table.proofs.Choice.{below?}
-use Rattle.table.proofs.Runs.{Counting, counting_more, counting_stop, counting_end, run_within, run_equal, get_d_reverse}
+use Rattle.table.proofs.Runs.{Counting, counting_more, counting_stop, counting_end, run_within, run_equal}
+use Rattle.table.proofs.Runs.{get_or_reverse}
 use Rattle.inverse_start.specs.Start.{leading_zeros, trailing_tops}
 
 -- a run counted from the last entry back
 module _ {y : ℕ} (t : List ℕ) {i : ℕ} (s : Counting y (reverse t) i) where
   pub back_more : i < length t → get_or t (length t - 1 - i) 0 ≡ y → Counting y (reverse t) (i + 1)
-  back_more h e = counting_more s (rw length-reverse h) (get_d_reverse t i h ∙ e)
+  back_more h e = counting_more s (rw length-reverse h) (get_or_reverse t i h ∙ e)
 
   pub back_stop : i < length t → (get_or t (length t - 1 - i) 0 ≡ y → ⊥) → i ≡ run y (reverse t)
-  back_stop h other = counting_stop s (λ e. other (sym (get_d_reverse t i h) ∙ e))
+  back_stop h other = counting_stop s (λ e. other (sym (get_or_reverse t i h) ∙ e))
 
   pub back_end : length t ≤ i → i ≡ run y (reverse t)
   back_end h = counting_end s (rw length-reverse h)
@@ -37,7 +38,7 @@ module _ (t : List ℕ) where
 
   pub top_entry : (i : ℕ) → i < trailing_tops t → get_or t (length t - 1 - i) 0 ≡ 65535
   unfolding trailing_tops
-  top_entry i h = sym (get_d_reverse t i (omega (arith, tops_le))) ∙ run_equal 65535 (reverse t) i h
+  top_entry i h = sym (get_or_reverse t i (omega (arith, tops_le))) ∙ run_equal 65535 (reverse t) i h
 
   -- No entry is both a leading zero and a trailing 65535. [inverse_start]
   pub runs_part : leading_zeros t + trailing_tops t ≤ length t

@@ -1,6 +1,7 @@
 -- The steps of document 01's inverse, `lut_inverse_interp16`, before its search, in the document's letters: a table of
 -- n entries, a value v. Assumes nothing.
-use Rattle.std.specs.Prelude.{ℕ, ◌-◌, ◌*◌, ◌/◌, Bool, true, List, reverse, length, ℤ, pos, negsuc, ◌+ℤ◌, ◌-ℤ◌, ◌*ℤ◌, ltb, eqb}
+use Rattle.std.specs.Prelude.{ℕ, ◌-◌, ◌*◌, ◌/◌, Bool, true, List, reverse, length, ℤ, pos, negsuc, ◌+ℤ◌, ◌-ℤ◌}
+use Rattle.std.specs.Prelude.{◌*ℤ◌, ltb, eqb}
 use Rattle.std.specs.Int.Signed.{quot_z}
 use Rattle.table.specs.Choice.{pick, both}
 use Rattle.table.specs.Runs.{run}

@@ -71,7 +71,8 @@ module _ (t : List ℕ) (x v c0 c1 : ℕ) where
 
   abbrev slope : Float → Float
   slope top =
-      div binary64 (sub binary64 (float (get_or t c1 0)) (float (get_or t c0 0))) (sub binary64 (node top c1) (node top c0))
+      div binary64 (sub binary64 (float (get_or t c1 0)) (float (get_or t c0 0))) (sub binary64 (node top c1) (node
+      top c0))
 
   abbrev crossing : Float → Float
   crossing top =

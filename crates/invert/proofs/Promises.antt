@@ -6,7 +6,7 @@ use Prim.Native.Nat.{ℕ, ◌<◌}
 use lib.ListN.{get_or}
 use Rattle.table.specs.declared.Done.{Done}
 use Rattle.table.proofs.Answers.{same_done}
-use Rattle.table.proofs.Fill.{get_d_tabulated}
+use Rattle.table.proofs.Fill.{get_or_tabulated}
 use Rattle.inverse.specs.Inverse.{inverted}
 use Rattle.invert.specs.Invert.{asked, inverted_at, inverted_of}
 use Rattle.invert.specs.Promises.{InvertPromise}
@@ -17,4 +17,4 @@ invert_one {r = r} {s = s} a b = (same_done r s (a.number ∙ sym b.number), a.a
 
 -- Entry by entry a table inverted is the inverse of what that entry asks. [invert::invert_lut]
 pub inverted_entry : (t : List ℕ) (m i : ℕ) → i < m → get_or (inverted_of t m) i 0 ≡ inverted t (asked m i)
-inverted_entry t m i h = get_d_tabulated (inverted_at t m) m i 0 h
+inverted_entry t m i h = get_or_tabulated (inverted_at t m) m i 0 h

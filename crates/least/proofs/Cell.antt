@@ -33,7 +33,8 @@ abbrev pub cell_steps : List ℕ → ℕ → ℕ → ℕ
 cell_steps t v c = div_ceil ((v - get_or t c 0) * 65535) (get_or t (c + 1) 0 - get_or t c 0)
 
 -- worked out of entries that were read
-pub steps_read : (t : List ℕ) (v c : ℕ) {before after w s : ℕ} → before ≡ get_or t c 0 → w ≡ v → after ≡ get_or t (c + 1) 0
+pub steps_read : (t : List ℕ) (v c : ℕ) {before after w s : ℕ} → before ≡ get_or t c 0 → w ≡ v
+    → after ≡ get_or t (c + 1) 0
     → s ≡ div_ceil ((w - before) * 65535) (after - before) → s ≡ cell_steps t v c
 steps_read t v c b w a s = rw (s, b, w, a) refl
 

@@ -13,7 +13,7 @@ use Rattle.table.specs.Choice.{pick}
 use Rattle.table.specs.Fill.{tabulated}
 use Rattle.table.specs.Order.{last_entry}
 use Rattle.table.proofs.Choice.{below?}
-use Rattle.table.proofs.Fill.{length_tabulated, get_d_tabulated}
+use Rattle.table.proofs.Fill.{length_tabulated, get_or_tabulated}
 use Rattle.table.proofs.Fill.{Filling, filling_start, filling_more, filling_again, filling_done}
 use Rattle.least.specs.Inside.{Searchable, FirstReaching}
 use Rattle.least.proofs.Bracket.{Bracket, bracket_start, bracket_half, bracket_end}
@@ -84,13 +84,14 @@ module _ {t values : List ℕ} {top i : ℕ} (s : Searchable t top) where
     searching_room p j h = omega (arith, (b.each j h).inside, s.last)
 
     pub searching_more : {further : List ℕ} → 0 < left
-        → further ≡ tabulated (closer_at t values i low ((left + 1) / 2)) 4 → Searching t top values i further (left / 2)
+        → further ≡ tabulated (closer_at t values i low ((left + 1) / 2)) 4
+        → Searching t top values i further (left / 2)
     searching_more {further} p e = record {
       four = ap length e ∙ length_tabulated (closer_at t values i low ((left + 1) / 2)) 4;
       each = λ j h.
           let at : get_or further j 0 ≡ closer_at t values i low ((left + 1) / 2) j =
           ap (λ (l : List ℕ). get_or l j 0) e
-          ∙ get_d_tabulated (closer_at t values i low ((left + 1) / 2)) 4 j 0 h in
+          ∙ get_or_tabulated (closer_at t values i low ((left + 1) / 2)) 4 j 0 h in
           bracket_half s (b.each j h) p
           (λ l. at ∙ simp (lt-ltb (get_or t (get_or low j 0 + (left + 1) / 2 - 1) 0) (get_or values (i + j) 0) l) refl)
           (λ l. at ∙ simp (le-ltb (get_or t (get_or low j 0 + (left + 1) / 2 - 1) 0) (get_or values (i + j) 0) l) refl);

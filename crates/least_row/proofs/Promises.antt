@@ -18,7 +18,7 @@ use Rattle.table.specs.declared.Refusal.TheVariants.{TableLength, NotNondecreasi
 use Rattle.table.proofs.Choice.{below?}
 use Rattle.table.proofs.Refusals.{rung_granted}
 use Rattle.table.proofs.Answers.{same_done, done_by, done_number, done_is, done_granted, done_refused, sought_by}
-use Rattle.table.proofs.Fill.{get_d_tabulated}
+use Rattle.table.proofs.Fill.{get_or_tabulated}
 use Rattle.lookup.specs.Lookup.{looked_up}
 use Rattle.least.specs.Least.{least_of}
 use Rattle.least.specs.Promises.{least_verdict, LeastPromise}
@@ -69,10 +69,11 @@ in_row_lem (refused why) p = refl
 
 -- A granted row holds at each place the single call's answer to the value there. [least_row::least_input_row]
 pub row_is_single : {t values out out' : List ℕ} → LeastRowPromise t values out Done.Yes out' → (i : ℕ)
-    → i < length values → (r : Sought) → LeastPromise t (record { 0 = get_or values i 0 }) r → get_or out' i 0 ≡ in_row r
+    → i < length values → (r : Sought) → LeastPromise t (record { 0 = get_or values i 0 }) r
+    → get_or out' i 0 ≡ in_row r
 row_is_single {t} {values} a i h r b =
     ap (λ (l : List ℕ). get_or l i 0) (least_row_granted a)
-    ∙ get_d_tabulated (least_row_at t values) (length values) i 0 h
+    ∙ get_or_tabulated (least_row_at t values) (length values) i 0 h
     ∙ in_row_lem (least_verdict t (get_or values i 0)) (least_of (looked_up t) (get_or values i 0))
     ∙ ap in_row (sym (least_answer b))
 

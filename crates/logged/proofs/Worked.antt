@@ -178,7 +178,8 @@ stands : standing_nudges opened (turns_of (logged_on bent blank 0) calls) ≡ wo
 unfolding within not_below_left not_above_right goes_with bent calls opened density blank tabulated
 stands = refl
 
-obeys : Obeys (logged_on bent blank 64) bent (word 1 100 200 ∷ []) (ended opened (turns_of (logged_on bent blank 0) calls))
+obeys : Obeys (logged_on bent blank 64) bent (word 1 100 200 ∷ []) (ended opened (turns_of (logged_on bent blank 0)
+    calls))
 unfolding within not_below_left not_above_right goes_with bent calls opened density blank tabulated
 obeys = log_demand (logged_on bent blank 64) opened (turns_of (logged_on bent blank 0) calls) sitting
 

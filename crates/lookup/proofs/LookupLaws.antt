@@ -129,7 +129,8 @@ looked_up_last t = lookup_last (entries_of t) (length t)
 
 -- In a table of 16-bit entries the answer is 16 bits wide. [lookup::lut_interp_linear16]
 pub looked_up_fits : (t : List ℕ) → SixteenBits t → (p : ℕ) → looked_up t p ≤ 65535
-looked_up_fits t b p = lookup_at_most (entries_of t) (length t) p 65535 (le_of_suc-le-suc (b _)) (le_of_suc-le-suc (b _))
+looked_up_fits t b p = lookup_at_most (entries_of t) (length t) p 65535 (le_of_suc-le-suc (b _)) (le_of_suc-le-suc
+    (b _))
 
 -- an answer that keeps the promise in a table of 1 to 65,536 entries holds its lookup
 pub sample_is : {t : List ℕ} → sized (length t) ≡ true → (l : LookupIn t) → sample_of l ≡ looked_up t (position_of l)

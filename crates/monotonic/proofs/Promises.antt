@@ -15,7 +15,8 @@ use Rattle.monotonic.specs.declared.Direction.{Direction}
 use Rattle.monotonic.specs.declared.Monotonic.{Monotonic}
 
 -- a verdict's number and values tell the whole verdict
-same_monotonic : (r s : Monotonic) → number_of_monotonic r ≡ number_of_monotonic s → yes_of_monotonic r ≡ yes_of_monotonic s
+same_monotonic : (r s : Monotonic) → number_of_monotonic r ≡ number_of_monotonic s
+    → yes_of_monotonic r ≡ yes_of_monotonic s
     → violations_of_monotonic r ≡ violations_of_monotonic s → r ≡ s
 same_monotonic (Monotonic.Yes v) (Monotonic.Yes w) n y e = ap Monotonic.Yes e
 same_monotonic (Monotonic.Yes v) (Monotonic.No w) n y e = absurd (omega arith)

@@ -51,7 +51,8 @@ module _ (d : Direction) where
       → Counted d t (count + yes_no (against d (get_or t (i - 1) 0) (get_or t i 0))) (i + 1)
   counted_on t count i h w =
       let step = yes_no (against d (get_or t (i - 1) 0) (get_or t i 0)) in
-      let next : violations_from d (get_or t (i - 1) 0) (drop i t) ≡ step + violations_from d (get_or t i 0) (drop (suc i) t)
+      let next : violations_from d (get_or t (i - 1) 0) (drop i t)
+      ≡ step + violations_from d (get_or t i 0) (drop (suc i) t)
       = rw (drop-cons t i 0 h) refl in
       let back : i + 1 - 1 ≡ i = omega arith in
       record {

@@ -11,23 +11,23 @@ use Rattle.table.proofs.Choice.{both_left}
 use Rattle.nudge_log.specs.Records.{word, new_of, old_of, index_of, goes_with}
 
 module _ (i old new : ℕ) (o : old < 65536) (n : new < 65536) where
-  -- A word's index is the one that it was made of. [log]
+  -- A word's index is the one that it was made of. [nudge_log]
   pub index_word : index_of (word i old new) ≡ i
   index_word = omega arith
 
-  -- A word's old entry is the one that it was made of. [log]
+  -- A word's old entry is the one that it was made of. [nudge_log]
   pub old_word : old_of (word i old new) ≡ old
   old_word = omega arith
 
-  -- A word's new entry is the one that it was made of. [log]
+  -- A word's new entry is the one that it was made of. [nudge_log]
   pub new_word : new_of (word i old new) ≡ new
   new_word = omega arith
 
--- A word's new entry is 16 bits wide, whatever the word. [log]
+-- A word's new entry is 16 bits wide, whatever the word. [nudge_log]
 pub new_narrow : (w : ℕ) → new_of w < 65536
 new_narrow w = omega arith
 
--- A word's old entry is 16 bits wide, whatever the word. [log]
+-- A word's old entry is 16 bits wide, whatever the word. [nudge_log]
 pub old_narrow : (w : ℕ) → old_of w < 65536
 old_narrow w = omega arith
 
@@ -41,11 +41,12 @@ module _ (t : List ℕ) (w : ℕ) where
   unfolding goes_with
   goes_other h n = simp (lt-ltb _ _ h, ne_eqb _ _ n)
 
-  pub goes_same : index_of w < length t → get_or t (index_of w) 0 ≡ new_of w → goes_with t w ≡ suits t (index_of w) (old_of w)
+  pub goes_same : index_of w < length t → get_or t (index_of w) 0 ≡ new_of w
+      → goes_with t w ≡ suits t (index_of w) (old_of w)
   unfolding goes_with
   goes_same h e = simp (lt-ltb _ _ h, eq-eqb _ _ e)
 
-  -- A word that goes with a table has an index inside it. [log]
+  -- A word that goes with a table has an index inside it. [nudge_log]
   pub goes_inside : goes_with t w ≡ true → index_of w < length t
   unfolding goes_with
   goes_inside e = ltb-true _ _ (both_left _ _ e)

@@ -102,23 +102,23 @@ taken_back_lem : (t : List ℕ) (w : ℕ) → Grantable t w → taken_back (nudg
 taken_back_lem t w g = set-set t (index_of w) (new_of w) (old_of w) ∙ rw g.was (set-get_or t (index_of w) 0)
 
 -- The table t is the table o with the nudges ws done in order: o is nondecreasing, and each nudge might be granted in
--- its turn. [log]
+-- its turn. [nudge_log]
 pub record Kept (o t ws : List ℕ) : Type 0 where
   order : nondecreasing o ≡ true
   each : EachGrantable o ws
   pub comes : all_nudged o ws ≡ t
 
--- A nondecreasing table is itself with no nudge done. [log]
+-- A nondecreasing table is itself with no nudge done. [nudge_log]
 pub kept_none : {o : List ℕ} → nondecreasing o ≡ true → Kept o o []
 unfolding all_nudged EachGrantable
 kept_none r = record { order = r; each = tt; comes = refl }
 
 module _ {o t ws : List ℕ} (k : Kept o t ws) where
-  -- The table with its nudges done is nondecreasing. [log]
+  -- The table with its nudges done is nondecreasing. [nudge_log]
   pub kept_order : nondecreasing t ≡ true
   kept_order = subst (λ (l : List ℕ). nondecreasing l ≡ true) k.comes (nudged_order o ws k.order k.each)
 
-  -- One more nudge that might be granted may be done at the end. [log]
+  -- One more nudge that might be granted may be done at the end. [nudge_log]
   pub kept_more : (w : ℕ) → Grantable t w → Kept o (nudged t w) (ws ++ (w ∷ []))
   kept_more w g = record {
     order = k.order;
@@ -130,7 +130,7 @@ module _ {o t : List ℕ} (ws : List ℕ) (w : ℕ) (k : Kept o t (ws ++ (w ∷ 
   before : nudged (all_nudged o ws) w ≡ t
   before = sym (nudged_last o ws w) ∙ k.comes
 
-  -- The last nudge taken back gives the table before it. [log]
+  -- The last nudge taken back gives the table before it. [nudge_log]
   pub kept_less : Kept o (taken_back t w) ws
   kept_less =
       let l = each_less o ws w k.each in
@@ -140,7 +140,7 @@ module _ {o t : List ℕ} (ws : List ℕ) (w : ℕ) (k : Kept o t (ws ++ (w ∷ 
         comes = sym (taken_back_lem (all_nudged o ws) w l.1) ∙ ap (λ (t : List ℕ). taken_back t w) before;
       }
 
-  -- The last nudge goes with the table, so that it can be taken back. [log]
+  -- The last nudge goes with the table, so that it can be taken back. [nudge_log]
   pub kept_goes : goes_with t w ≡ true
   kept_goes =
       let l = each_less o ws w k.each in

@@ -54,7 +54,8 @@ pub record Opened (b : List ℕ) : Type 0 where
 module _ (b : List ℕ) (o : Opened b) where
   -- what is left of the checks
   left : tag_verdict b
-      ≡ rung (leb (type_of b) 4) FunctionType (rung (eqb (length b) (tag_length (count_of (type_of b)))) TagLength granted)
+      ≡ rung (leb (type_of b) 4) FunctionType (rung (eqb (length b) (tag_length (count_of (type_of b)))) TagLength
+      granted)
   unfolding tag_verdict
   left = simp (le-leb _ _ o.twelve, eq-eqb _ _ o.signed, eq-eqb _ _ o.zeros, eq-eqb _ _ o.after)
 

@@ -12,14 +12,14 @@ use lib.IntN.{ℤ, pos}
 use lib.Signed.{mag}
 use Rattle.table.specs.Choice.{pick}
 use Rattle.table.specs.Fill.{tabulated}
-use Rattle.table.proofs.Fill.{length_tabulated, get_d_tabulated}
+use Rattle.table.proofs.Fill.{length_tabulated, get_or_tabulated}
 use Rattle.para.specs.declared.Numbers.{Numbers}
 use Rattle.para.specs.Tag.{seven, listed, placed, SignedBits, used_at, used}
 
 -- seven numbers are those of their places
 pub placed_seven : (at : ℕ → ℤ) (k : ℕ) → k < 7 → placed (seven at) k ≡ at k
 unfolding tabulated
-placed_seven at k h = get_d_tabulated at 7 k (pos 0) h
+placed_seven at k h = get_or_tabulated at 7 k (pos 0) h
 
 -- Whatever is made of seven numbers, one at a time, and the numbers themselves.
 pub listed_made : {A : Type 0} {g a b c d e f : A} (make : ℤ → A) (m : Numbers)
@@ -46,7 +46,7 @@ first_used make n at h =
     get_or-take n l k (make (pos 0)) here
     ∙ get_or-map make (listed (used n at)) k (pos 0)
     ∙ ap make (placed_seven (used_at n at) k (omega arith) ∙ simp (lt-ltb k n here))
-    ∙ sym (get_d_tabulated (λ k. make (at k)) n k (make (pos 0)) here))
+    ∙ sym (get_or_tabulated (λ k. make (at k)) n k (make (pos 0)) here))
 
 -- two rules that agree at the first n places give the same numbers
 pub used_same : (n : ℕ) (at other : ℕ → ℤ) → ((k : ℕ) → k < n → at k ≡ other k) → used n at ≡ used n other

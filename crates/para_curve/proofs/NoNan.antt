@@ -12,7 +12,7 @@ use lib.Ieee.{Float, nan, binary32, eq}
 use lib.Ieee.Scale.{finite}
 use Rattle.table.specs.Fill.{tabulated}
 use Rattle.table.specs.Refusals.{Verdict, granted, refused, if_granted}
-use Rattle.table.proofs.Fill.{length_tabulated, get_d_tabulated}
+use Rattle.table.proofs.Fill.{length_tabulated, get_or_tabulated}
 use Rattle.icc.specs.Bytes.{EightBits, be32}
 use Rattle.icc.proofs.Numbers.{be32_halves, below16}
 use Rattle.ieee.specs.Range.{nought}
@@ -68,7 +68,7 @@ module _ (b : List ℕ) (w : EightBits b) where
       let at : ℕ → Float = λ k. nearest (raw_at b k) in
       let many : length params ≡ n = length_tabulated at n in
       let each : (i : ℕ) → i < length params → Finite (parameter params i) =
-      λ i h. subst Finite (sym (get_d_tabulated at n i nan (subst (λ (z : ℕ). i < z) many h))) (number_finite i) in
+      λ i h. subst Finite (sym (get_or_tabulated at n i nan (subst (λ (z : ℕ). i < z) many h))) (number_finite i) in
       let may : counted (length params) ≡ true = ap counted many ∙ count_counted (type_of b) known in
       subst (λ (z : ℕ). Kept Finite z (curve_of b)) many (unified_kept Finite tt tt params may each)
 
@@ -112,7 +112,8 @@ curve_d_nan {b} {r} w p e = go (tag_verdict b) refl
     k = curve_no_nan w p
 
     go : (v : Verdict) → tag_verdict b ≡ v
-        → ((type_of b ≡ 1) ⊎ (type_of b ≡ 2)) × T (eq (value_of_unified r).a nought) × T (eq (value_of_unified r).b nought)
+        → ((type_of b ≡ 1) ⊎ (type_of b ≡ 2)) × T (eq (value_of_unified r).a nought)
+        × T (eq (value_of_unified r).b nought)
     go granted g = let z = quotient_zero b w k e in (quotient_types b w (readable b g).known k e, z.0, z.1)
     go (refused why) g =
         let bare : value_of_unified r ≡ no_curve = simp g at p.value in

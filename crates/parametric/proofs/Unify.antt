@@ -69,7 +69,8 @@ module _ (n : ℕ) (h : counted n ≡ true) where
   pub first_one : 1 ≤ n
   first_one = ⊎_elim (λ l. let e = then_three (λ e. omega arith) in absurd (omega arith)) (λ g. g) (below? n 1)
 
-pub same_unified : (r s : Unified) → number_of_unified r ≡ number_of_unified s → value_of_unified r ≡ value_of_unified s → r ≡ s
+pub same_unified : (r s : Unified) → number_of_unified r ≡ number_of_unified s
+    → value_of_unified r ≡ value_of_unified s → r ≡ s
 same_unified (Unified.Curve a) (Unified.Curve b) e v = ap Unified.Curve v
 same_unified (Unified.Curve a) (Unified.Refused b) e v = absurd (omega (arith, number_above b))
 same_unified (Unified.Refused a) (Unified.Curve b) e v = absurd (omega (arith, number_above a))

@@ -15,7 +15,7 @@ use Rattle.table.specs.declared.Done.{Done}
 use Rattle.table.proofs.Sizes.{within_low, within_high}
 use Rattle.table.proofs.Refusals.{rung_granted}
 use Rattle.table.proofs.Answers.{done_granted}
-use Rattle.table.proofs.Fill.{length_tabulated, get_d_tabulated}
+use Rattle.table.proofs.Fill.{length_tabulated, get_or_tabulated}
 use Rattle.ieee.specs.Range.{one, float}
 use Rattle.ieee.proofs.Range.{whole_held, whole_of, div_upto}
 use Rattle.ieee.proofs.NoNan.{no_nan, Bounded, upto_bounded, whole_bounded, mul_bounded, bounded_no_nan}
@@ -59,5 +59,5 @@ passthrough_no_nan {o} {o'} p i h =
     let n = length o in
     let k : i < n = subst (λ (z : ℕ). i < z) (ap length e ∙ length_tabulated (passed n) n) h in
     let is : get_or o' i nan ≡ passed n i =
-    ap (λ (l : List Float). get_or l i nan) e ∙ get_d_tabulated (passed n) n i nan k in
+    ap (λ (l : List Float). get_or l i nan) e ∙ get_or_tabulated (passed n) n i nan k in
     no_nan (get_or o' i nan) (ap is_nan is ∙ passed_no_nan n S i k)

@@ -150,7 +150,8 @@ nothing_stays : (l : List ℕ) → is_whole (after_all Next.Nothing l) ≡ false
 nothing_stays [] = refl
 nothing_stays (b ∷ l) = nothing_stays l
 
-whole_room : (s : Next) (l : List ℕ) → is_whole (after_all s l) ≡ true → escaped_length l ≤ 5 * characters_in l + to_come s
+whole_room : (s : Next) (l : List ℕ) → is_whole (after_all s l) ≡ true
+    → escaped_length l ≤ 5 * characters_in l + to_come s
 whole_room s [] e = omega arith
 whole_room s (b ∷ l) e =
     ⊎_elim

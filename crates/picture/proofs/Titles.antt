@@ -5,7 +5,8 @@ use mathlib.Core.List.{List, [], ◌∷◌}
 use Prim.Native.Nat.{ℕ}
 use lib.ListN.{replicate}
 use Rattle.table.specs.Choice.{both}
-use Rattle.picture.specs.Title.{lowest_after, highest_after, more_after, after_lead, after_first, after_tail, after_edge}
+use Rattle.picture.specs.Title.{lowest_after, highest_after, more_after, after_lead, after_first, after_tail}
+use Rattle.picture.specs.Title.{after_edge}
 use Rattle.picture.specs.Title.{begins, is_title}
 
 abbrev each : (List ℕ → Bool) → List (List ℕ) → Bool

@@ -12,7 +12,7 @@ use Rattle.table.specs.Order.{nondecreasing, Nondecreasing}
 use Rattle.table.specs.declared.Done.{Done}
 use Rattle.table.proofs.Sizes.{within_low, within_high, is_within}
 use Rattle.table.proofs.Order.{fact_test}
-use Rattle.table.proofs.Fill.{length_tabulated, get_d_tabulated, tabulated_same}
+use Rattle.table.proofs.Fill.{length_tabulated, get_or_tabulated, tabulated_same}
 use Rattle.table.proofs.Answers.{looked_by, done_by}
 use Rattle.curve.specs.Ramp.{ramp, ramp_of}
 use Rattle.curve.specs.Promises.{sitting_on, StartPromise, AcceptPromise}
@@ -59,7 +59,7 @@ module _ (n p : ℕ) (size : spanned n ≡ true) where
   entries_rise : Nondecreasing (table_of p n)
   entries_rise i j ij l =
       let m : j < n = subst (λ (k : ℕ). j < k) (length_tabulated (entry_at p n) n) l in
-      rw (get_d_tabulated (entry_at p n) n i 0 (omega arith), get_d_tabulated (entry_at p n) n j 0 m)
+      rw (get_or_tabulated (entry_at p n) n i 0 (omega arith), get_or_tabulated (entry_at p n) n j 0 m)
       (value_rises p (ramp n i) (ramp n j) (ramp_rises n size i j ij) (omega (arith, ramp_fits n size j m)))
 
   -- Accept grants the table. [power_curve::power_table, power_curve::tag_power_table]
@@ -86,7 +86,7 @@ module _ (n p : ℕ) (size : spanned n ≡ true) where
       size = λ t. ap length (known t).1 ∙ length_tabulated (entry_at p n) n;
       entries = λ t (i : ℕ) (h : i < n) (v : PowerIn p) (e : x_of v ≡ ramp n i).
           ap (λ (u : List ℕ). get_or u i 0) (known t).1
-          ∙ get_d_tabulated (entry_at p n) n i 0 h
+          ∙ get_or_tabulated (entry_at p n) n i 0 h
           ∙ sym ((power_granted allowed v.kept).1 ∙ ap (value_at p) e);
       accepted = λ t.
           subst (λ (u : List ℕ). AcceptPromise (sitting_on u) Done.Yes (sitting_on u)) (sym (known t).1) table_accepted;

@@ -72,7 +72,8 @@ u8_gives x r h p =
     }
 
 pub s15_gives : (z : ℤ) (r : Float) → mag z < 2 ^ 31
-    → NarrowPromise (div binary64 (of_int binary64 z) (of_bits binary64 0x40f0_0000_0000_0000)) r → S15Fixed16Promise z r
+    → NarrowPromise (div binary64 (of_int binary64 z) (of_bits binary64 0x40f0_0000_0000_0000)) r
+    → S15Fixed16Promise z r
 s15_gives z r h p =
     record {
       value = p.value ∙ ap (λ (y : Float). narrow (div binary64 (of_int binary64 z) y)) by_65536

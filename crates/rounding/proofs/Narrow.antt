@@ -15,7 +15,8 @@ use lib.Dec.{T, leb, ltb, eqb, lit<, lit≤}
 use lib.Arith.{le→nltb}
 use lib.Pow.{pow-add, pow_pos, pow_mono, shl_exact}
 use borrow.Author.Tests.{ltb-true, ltb-false, ne_eqb}
-use lib.Ieee.{Float, nan, inf, fin, binary32, binary64, up, down, odd, round, fits, is_nan, nan_bits, ne, div, of_fields}
+use lib.Ieee.{Float, nan, inf, fin, binary32, binary64, up, down, odd, round, fits, is_nan, nan_bits, ne, div}
+use lib.Ieee.{of_fields}
 use lib.Ieee.{nearest, of_bits, to_bits}
 use lib.Ieee.Fits.{down_pos, round-fits, nan-fits, inf-fits}
 use lib.Ieee.Bits.{of_bits-to_bits, is_false, nan_bits_is, nan_bits_above}
@@ -213,7 +214,8 @@ module _ (s : Bool) (t : ℕ) (T52 : t < 2 ^ 52) where
   pub shown_low : (e : ℕ) → 873 ≤ e → e < 897 → Shown e t (closest (4503599627370496 + t) (2 ^ (926 - e))) s
   shown_low zero E H = absurd (omega arith)
   shown_low (suc j) E H =
-      ap (λ (z : ℕ). of_bits binary32 (cond s 2147483648 0 + closest (4503599627370496 + t) (2 ^ z))) (suc-sub-suc 925 j)
+      ap (λ (z : ℕ). of_bits binary32 (cond s 2147483648 0 + closest (4503599627370496 + t) (2 ^ z))) (suc-sub-suc
+      925 j)
       ∙ low s (2 ^ 52 + t) j hi (omega arith)
       ∙ sym (number j (omega arith))
 

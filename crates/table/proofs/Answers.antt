@@ -19,14 +19,16 @@ same_done (Done.Refused a) Done.Yes e = absurd (omega (arith, number_above a))
 same_done (Done.Refused a) (Done.Refused b) e = ap Done.Refused (same_refusal a b e)
 
 -- A looked-up answer is known by its number and its value. [table]
-pub same_looked : (r s : Looked) → number_of_looked r ≡ number_of_looked s → value_of_looked r ≡ value_of_looked s → r ≡ s
+pub same_looked : (r s : Looked) → number_of_looked r ≡ number_of_looked s → value_of_looked r ≡ value_of_looked s
+    → r ≡ s
 same_looked (Looked.At a) (Looked.At b) e v = ap (λ (n : ℕ). Looked.At (record { 0 = n })) v
 same_looked (Looked.At a) (Looked.Refused b) e v = absurd (omega (arith, number_above b))
 same_looked (Looked.Refused a) (Looked.At b) e v = absurd (omega (arith, number_above a))
 same_looked (Looked.Refused a) (Looked.Refused b) e v = ap Looked.Refused (same_refusal a b e)
 
 -- A sought answer is known by its number and its value. [table]
-pub same_sought : (r s : Sought) → number_of_sought r ≡ number_of_sought s → value_of_sought r ≡ value_of_sought s → r ≡ s
+pub same_sought : (r s : Sought) → number_of_sought r ≡ number_of_sought s → value_of_sought r ≡ value_of_sought s
+    → r ≡ s
 same_sought (Sought.At a) (Sought.At b) e v = ap (λ (n : ℕ). Sought.At (record { 0 = n })) v
 same_sought (Sought.At a) (Sought.Refused b) e v = absurd (omega (arith, number_above b))
 same_sought (Sought.Refused a) (Sought.At b) e v = absurd (omega (arith, number_above a))
@@ -77,6 +79,7 @@ pub sought_value : (w : Verdict) (p : ℕ) → value_of_sought (sought_by w p) �
 sought_value granted p = refl
 sought_value (refused why) p = refl
 
-pub sought_is : {r : Sought} (w : Verdict) (p : ℕ) → number_of_sought r ≡ number_in w → value_of_sought r ≡ if_granted w p 0
+pub sought_is : {r : Sought} (w : Verdict) (p : ℕ) → number_of_sought r ≡ number_in w
+    → value_of_sought r ≡ if_granted w p 0
     → r ≡ sought_by w p
 sought_is {r} w p n v = same_sought r (sought_by w p) (n ∙ sym (sought_number w p)) (v ∙ sym (sought_value w p))

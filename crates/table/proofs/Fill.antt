@@ -19,14 +19,14 @@ module _ {A : Type 0} (f : ℕ → A) where
   length_tabulated (suc n) = simp (length-append, length_tabulated n) (omega arith)
 
   -- Entry i of the filled list is f i. [table]
-  pub get_d_tabulated : (n i : ℕ) (d : A) → i < n → get_or (tabulated f n) i d ≡ f i
+  pub get_or_tabulated : (n i : ℕ) (d : A) → i < n → get_or (tabulated f n) i d ≡ f i
   unfolding tabulated
-  get_d_tabulated zero i d h = absurd (not-suc-le-zero h)
-  get_d_tabulated (suc n) i d h =
+  get_or_tabulated zero i d h = absurd (not-suc-le-zero h)
+  get_or_tabulated (suc n) i d h =
       ⊎_elim
       (λ (e : i ≡ n). rw e (get_or_at (tabulated f n) (f n) [] d n (length_tabulated n)))
       (λ (l : i < n).
-      get_or-append (tabulated f n) (f n ∷ []) d i (rw (length_tabulated n) l) ∙ get_d_tabulated n i d l)
+      get_or-append (tabulated f n) (f n ∷ []) d i (rw (length_tabulated n) l) ∙ get_or_tabulated n i d l)
       (eq-or-lt_of_le (le_of_suc-le-suc h))
 
   -- the buffer l once its first i entries are filled

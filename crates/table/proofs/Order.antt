@@ -134,7 +134,8 @@ module _ (t : List ℕ) (i x : ℕ) (R : Nondecreasing t) (h : i < length t) (s 
       here : j ≡ i → get_or (set t i x) j 0 ≤ get_or (set t i x) (suc j) 0
       here e =
           let a : get_or (set t i x) j 0 ≡ x = rw e (get_or-set_same t i x 0 h) in
-          let b : get_or (set t i x) (suc j) 0 ≡ get_or t (suc j) 0 = get_or-set_other t i (suc j) x 0 (λ q. omega arith) in
+          let b : get_or (set t i x) (suc j) 0 ≡ get_or t (suc j) 0 =
+          get_or-set_other t i (suc j) x 0 (λ q. omega arith) in
           let c : i + 1 ≡ suc j = omega arith in
           omega (arith, le_right (omega arith), ap (λ (n : ℕ). get_or t n 0) c)
 

@@ -87,14 +87,14 @@ module _ {y : ℕ} {l : List ℕ} where
     counting_end h = run_is y l i s.inside s.sofar (λ (m : i < length l). absurd (omega arith))
 
 -- A table reversed is the table read from its end. [table]
-pub get_d_reverse : (t : List ℕ) (i : ℕ) → i < length t → get_or (reverse t) i 0 ≡ get_or t (length t - 1 - i) 0
-get_d_reverse [] i h = absurd (not-suc-le-zero h)
-get_d_reverse (x ∷ l) i h =
+pub get_or_reverse : (t : List ℕ) (i : ℕ) → i < length t → get_or (reverse t) i 0 ≡ get_or t (length t - 1 - i) 0
+get_or_reverse [] i h = absurd (not-suc-le-zero h)
+get_or_reverse (x ∷ l) i h =
     rw reverse-cons
     (⊎_elim
     (λ (lt : i < length l).
     let e : suc (length l) - 1 - i ≡ suc (length l - 1 - i) = omega arith in
-    rw e (get_or-append (reverse l) (x ∷ []) 0 i (rw length-reverse lt) ∙ get_d_reverse l i lt))
+    rw e (get_or-append (reverse l) (x ∷ []) 0 i (rw length-reverse lt) ∙ get_or_reverse l i lt))
     (λ (le : length l ≤ i).
     let e : suc (length l) - 1 - i ≡ 0 = omega arith in
     rw e (get_or_at (reverse l) x [] 0 i (length-reverse l ∙ le_antisymm le (le_of_suc-le-suc h))))

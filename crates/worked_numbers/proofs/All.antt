@@ -18,7 +18,8 @@ use Rattle.worked_numbers.specs.Thirteen.{Thirteen}
 -- Each of document 01's thirteen numbers is an answer that its promise names. [worked_numbers]
 pub thirteen : Thirteen
 unfolding within tabulated weighted lookup16 gamma_unit gamma ramp first least_of inverted searched search first_right
-    first_left zero_at_once trailing_tops leading_zeros run tail between rounded node_of cell_of abs ceil floor of_int round neg
+    first_left zero_at_once trailing_tops leading_zeros run tail between rounded node_of cell_of abs ceil floor
+    of_int round neg
     add sub mul div lt le
 thirteen = record {
   case_1 = record { number = refl; value = refl };

@@ -8,7 +8,8 @@ use Rattle.gamma.proofs.max_colors.Goals as goal
 
 pub returns : goal.returns
 returns c =
-    let shifted : 1 * 2 ^ c.args.depth % 2 ^ 64 ≡ 2 ^ c.args.depth = rw one-mul (mod-eq_of_lt (omega (arith, power_high c.args.depth c.requires.1))) in
+    let shifted : 1 * 2 ^ c.args.depth % 2 ^ 64 ≡ 2 ^ c.args.depth =
+    rw one-mul (mod-eq_of_lt (omega (arith, power_high c.args.depth c.requires.1))) in
     rw shifted (
       refl,
       omega (arith, power_low c.args.depth c.requires.0),

@@ -17,11 +17,13 @@ int_to_float-value c =
 
 pub ceil_f64-upper-requires : goal.ceil_f64-upper-requires
 ceil_f64-upper-requires c =
-    place_asks (length c.args.table.now) c.requires.table_sized binary64 c.args.x (inside_upto c.args.x c.requires.within_unit)
+    place_asks (length c.args.table.now) c.requires.table_sized binary64 c.args.x (inside_upto c.args.x
+    c.requires.within_unit)
 
 pub floor_f64-lower-requires : goal.floor_f64-lower-requires
 floor_f64-lower-requires c =
-    place_asks (length c.args.table.now) c.requires.table_sized binary64 c.args.x (inside_upto c.args.x c.requires.within_unit)
+    place_asks (length c.args.table.now) c.requires.table_sized binary64 c.args.x (inside_upto c.args.x
+    c.requires.within_unit)
 
 pub bounds-table-upper : goal.bounds-table-upper
 bounds-table-upper c =

@@ -7,7 +7,9 @@ use Rattle.parametric.specs.Compare.{close}
 use Rattle.parametric.proofs.compare_parametric.Given as goal
 
 abbrev pub invariant-loop-i : goal.invariant-loop-i
-invariant-loop-i l = (l.i ≤ l.n) × (l.n ≡ min (length l.src) (length l.dst)) × (close (drop l.i l.src) (drop l.i l.dst) ≡ close l.src l.dst)
+invariant-loop-i l =
+    (l.i ≤ l.n) × (l.n ≡ min (length l.src) (length l.dst))
+    × (close (drop l.i l.src) (drop l.i l.dst) ≡ close l.src l.dst)
 
 abbrev pub decreases-loop-i : goal.decreases-loop-i
 decreases-loop-i l = l.n - l.i

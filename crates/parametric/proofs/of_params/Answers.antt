@@ -41,7 +41,8 @@ returns-then-n-eq4 c =
 
 pub bounds-params-4 : goal.bounds-params-4
 bounds-params-4 c =
-    let five : 5 ≤ length c.args.params.now = then_five _ c.requires c.if-n-eq1.false c.if-n-eq3.false c.if-n-eq4.false in
+    let five : 5 ≤ length c.args.params.now =
+    then_five _ c.requires c.if-n-eq1.false c.if-n-eq3.false c.if-n-eq4.false in
     omega (arith, five)
 
 pub returns-then-n-eq5 : goal.returns-then-n-eq5
@@ -50,15 +51,18 @@ returns-then-n-eq5 c =
 
 pub bounds-params-5 : goal.bounds-params-5
 bounds-params-5 c =
-    let seven : length c.args.params.now ≡ 7 = then_seven _ c.requires c.if-n-eq1.false c.if-n-eq3.false c.if-n-eq4.false c.if-n-eq5.false in
+    let seven : length c.args.params.now ≡ 7 =
+    then_seven _ c.requires c.if-n-eq1.false c.if-n-eq3.false c.if-n-eq4.false c.if-n-eq5.false in
     omega (arith, seven)
 
 pub bounds-params-6 : goal.bounds-params-6
 bounds-params-6 c =
-    let seven : length c.args.params.now ≡ 7 = then_seven _ c.requires c.if-n-eq1.false c.if-n-eq3.false c.if-n-eq4.false c.if-n-eq5.false in
+    let seven : length c.args.params.now ≡ 7 =
+    then_seven _ c.requires c.if-n-eq1.false c.if-n-eq3.false c.if-n-eq4.false c.if-n-eq5.false in
     omega (arith, seven)
 
 pub returns : goal.returns
 returns c =
-    let seven : length c.args.params.now ≡ 7 = then_seven _ c.requires c.if-n-eq1.false c.if-n-eq3.false c.if-n-eq4.false c.if-n-eq5.false in
+    let seven : length c.args.params.now ≡ 7 =
+    then_seven _ c.requires c.if-n-eq1.false c.if-n-eq3.false c.if-n-eq4.false c.if-n-eq5.false in
     seven_make _ seven refl

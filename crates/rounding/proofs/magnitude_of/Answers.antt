@@ -18,7 +18,8 @@ nearest_quotient-requires-clause-some c = (low_asks c.args.bits c.if-bits-ge3931
 pub nearest_quotient-requires-clause-d_small : goal.nearest_quotient-requires-clause-d_small
 nearest_quotient-requires-clause-d_small c = (low_asks c.args.bits c.if-bits-ge3931642474694443008.true).1.0
 
-pub returns-then-bits-ge3931642474694443008-clause-in_range : goal.returns-then-bits-ge3931642474694443008-clause-in_range
+pub returns-then-bits-ge3931642474694443008-clause-in_range :
+    goal.returns-then-bits-ge3931642474694443008-clause-in_range
 returns-then-bits-ge3931642474694443008-clause-in_range c =
     (low_gives c.args.bits c.nearest_quotient.result c.if-bits-ge3931642474694443008.true
     c.if-bits-ge4039728865751334912.false c.nearest_quotient.ensures).0

@@ -34,7 +34,8 @@ returns-then-bits-ge9223372036854775808 c =
     let held : T (fits binary64 c.args.x) = subst T (sym c.well_formed.0.1) tt in
     let x = c.args.x in
     narrowed x held c.if-x.false true c.magnitude-pattern.result
-    (le-leb 9223372036854775808 (to_bits binary64 x) c.if-bits-ge9223372036854775808.true) c.magnitude-pattern.ensures.nearest
+    (le-leb 9223372036854775808 (to_bits binary64 x) c.if-bits-ge9223372036854775808.true)
+    c.magnitude-pattern.ensures.nearest
 
 pub float_from_bits-result-2 : goal.float_from_bits-result-2
 float_from_bits-result-2 c =
@@ -49,4 +50,5 @@ returns c =
     let m = c.magnitude-pattern.result in
     subst (λ (z : ℕ). NarrowPromise x (of_bits binary32 z)) (zero-add m)
     (narrowed x held c.if-x.false false m
-    (lt-leb 9223372036854775808 (to_bits binary64 x) c.if-bits-ge9223372036854775808.false) c.magnitude-pattern.ensures.nearest)
+    (lt-leb 9223372036854775808 (to_bits binary64 x) c.if-bits-ge9223372036854775808.false)
+    c.magnitude-pattern.ensures.nearest)

@@ -7,5 +7,7 @@ use Rattle.least.proofs.Tables.{table_first}
 use Rattle.least.proofs.inside.least_at.Goals as goal
 
 pub returns-then-next-eq0 : goal.returns-then-next-eq0
-returns-then-next-eq0 c =
-    (sym (table_first c.requires.searchable.passed _ (found_first c.requires.first_reaching c.if-next-eq0.true)), zero-le)
+returns-then-next-eq0 c = (
+  sym (table_first c.requires.searchable.passed _ (found_first c.requires.first_reaching c.if-next-eq0.true)),
+  zero-le,
+)

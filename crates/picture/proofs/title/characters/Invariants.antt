@@ -8,7 +8,9 @@ use Rattle.picture.specs.Title.{begins}
 use Rattle.picture.proofs.title.characters.Given as goal
 
 abbrev pub invariant-loop-i : goal.invariant-loop-i
-invariant-loop-i l = (l.i ≤ length l.text) × (l.i-end ≡ length l.text) × (l.n ≤ l.i) × (l.n + total begins (drop l.i l.text) ≡ total begins l.text)
+invariant-loop-i l =
+    (l.i ≤ length l.text) × (l.i-end ≡ length l.text) × (l.n ≤ l.i)
+    × (l.n + total begins (drop l.i l.text) ≡ total begins l.text)
 
 abbrev pub decreases-loop-i : goal.decreases-loop-i
 decreases-loop-i l = length l.text - l.i

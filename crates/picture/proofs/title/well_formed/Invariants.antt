@@ -8,7 +8,8 @@ use Rattle.picture.specs.declared.title.Next.{Next}
 use Rattle.picture.proofs.title.well_formed.Given as goal
 
 abbrev pub invariant-loop-i : goal.invariant-loop-i
-invariant-loop-i l = (l.i ≤ length l.text) × (l.i-end ≡ length l.text) × (after_all l.s (drop l.i l.text) ≡ after_all Next.First l.text)
+invariant-loop-i l =
+    (l.i ≤ length l.text) × (l.i-end ≡ length l.text) × (after_all l.s (drop l.i l.text) ≡ after_all Next.First l.text)
 
 abbrev pub decreases-loop-i : goal.decreases-loop-i
 decreases-loop-i l = length l.text - l.i

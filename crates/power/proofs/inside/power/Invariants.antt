@@ -6,7 +6,8 @@ use Rattle.power.specs.Power.{whole_steps, root_steps, power}
 use Rattle.power.proofs.inside.power.Given as goal
 
 abbrev pub invariant-loop-k : goal.invariant-loop-k
-invariant-loop-k l = (root_steps 4294901760 l.base l.k l.r l.a ≡ power 4294901760 l.base l.exponent) × (l.a ≤ 4294901760)
+invariant-loop-k l =
+    (root_steps 4294901760 l.base l.k l.r l.a ≡ power 4294901760 l.base l.exponent) × (l.a ≤ 4294901760)
 
 abbrev pub decreases-loop-k : goal.decreases-loop-k
 decreases-loop-k l = l.k
