@@ -23,16 +23,16 @@ EXPORTED = rf'{re.escape(KEPT)}\s+(pub extern "C" fn bg_bake\b)'
 REST = r"(?:(?!\n\S).)*"
 # A law of one answer over any contract, and the buffers that it can be of.
 CONTRACT = """use Rattle.std.specs.Prelude.{◌≡◌}
-use Rattle.std.specs.Borrow.{Bor}
+use Rattle.std.specs.Borrow.{MutBor}
 
 module _ {K A R E : Type 0} (Post : K → A → R → E → Type 0) where
   abbrev pub One : {S : Type 0} → (E → S) → Type 0
   One buffer = (κs : K) (a : A) (r s : R) (e f : E) → Post κs a r e → Post κs a s f → ENDS
 
-abbrev pub first : {S E : Type 0} → Bor S × E → S
+abbrev pub first : {S E : Type 0} → MutBor S × E → S
 first e = e.0.now
 
-abbrev pub second : {P S E : Type 0} → P × (Bor S × E) → S
+abbrev pub second : {P S E : Type 0} → P × (MutBor S × E) → S
 second e = e.1.0.now
 """
 LEAK = "pub fn leak(x: u16) -> u16 {\n    x\n}\n"

@@ -39,7 +39,7 @@ pub struct List {
 }
 
 // A list, with where the program stands.
-#[derive(Drop)]
+#[derive(Clone, Copy)]
 pub struct Opened {
     pub s: State,
     pub list: List,

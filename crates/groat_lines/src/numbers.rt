@@ -40,13 +40,13 @@ pub enum Place {
 }
 
 // A number that was read up to the first byte that is none of its digits.
-#[derive(Drop)]
+#[derive(Clone, Copy)]
 pub struct ReadSum {
     pub s: State,
     pub sum: Sum,
 }
 
-#[derive(Drop)]
+#[derive(Clone, Copy)]
 struct ReadNatural {
     s: State,
     n: Natural,

@@ -117,7 +117,7 @@ fn widened(byte: u8) -> u16 {
 }
 
 // What a read brought: so many bytes, 0 where the input has ended.
-#[derive(Drop)]
+#[derive(Clone, Copy)]
 enum Input {
     Bytes(u16),
     Failed,

@@ -124,7 +124,7 @@ pub fn read_name(s: State, io: &mut Streams) -> State {
 }
 
 // The name that a text begins with, up to its end or to a byte that no name has, and how many letters it has.
-#[derive(Drop)]
+#[derive(Clone, Copy)]
 pub struct Name {
     pub code: u64,
     pub letters: usize,

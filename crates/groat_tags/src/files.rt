@@ -15,7 +15,7 @@ use std::os::unix::fs::{PermissionsExt, fchown};
 use std::random::RandomSource;
 use std::str::from_utf8;
 
-#[derive(Drop)]
+#[derive(Clone, Copy)]
 enum Loaded {
     Bytes(usize),
     TooMany,

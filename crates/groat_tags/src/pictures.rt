@@ -66,7 +66,7 @@ fn plot(s: State, io: &mut Streams, table: &[u16]) -> State {
 }
 
 // What has been written of a picture: how many bytes, and whether all went well.
-#[derive(Drop)]
+#[derive(Clone, Copy)]
 struct Drawn {
     fine: bool,
     bytes: usize,
