@@ -225,7 +225,8 @@ def parts_of(path):
         shut = source.find(";", found.end() - 1) if found[2] != "{" else closing(source, found.end() - 1)
         parts.append((found[1], found.start(), shut + 1))
     uses = re.finditer(r"(?<!ghost )\buse\s+([^;]*);", source)
-    return parts, [(name, found.start(), found.end()) for found in uses for name in re.findall(r"\w+", found[1])]
+    names = [(name, found.start(1)) for found in uses for name in re.finditer(r"\w+", found[1])]
+    return parts, [(name[0], at + name.start(), at + name.end()) for name, at in names]
 
 
 def touched(parts, span):
