@@ -7,6 +7,7 @@ use mathlib.Core.List.{List}
 use native.Mathlib.Omega.{arith}
 use denote.Ref.{Bor}
 use lib.ListN.{length}
+use Rattle.table.specs.Answers.{number_of_answer}
 use Rattle.rounding.proofs.Answers.{narrow_one, u8_one, s15_one}
 use Rattle.lookup.proofs.Promises.{lookup_one}
 use Rattle.rows.proofs.Promises.{row_one, bake_one}
@@ -15,7 +16,6 @@ use Rattle.curve.specs.Promises.{Sitting, sitting_on}
 use Rattle.curve.proofs.Promises.{start_one, accept_one}
 use Rattle.nudge.proofs.Promises.{nudge_one}
 use Rattle.least.proofs.Promises.{least_one}
-use Rattle.table.specs.Answers.{number_of_done}
 use Rattle.logged.specs.State.{Logged}
 use Rattle.logged.specs.Promises.{Call, LogPromise}
 use Rattle.logged.proofs.Promises.{log_one}
@@ -130,11 +130,11 @@ bg_nudge_one = one-both (λ κs a e f l m x y. let both = nudge_one x y in (both
 
 -- Taking nudges back: the answer, and what is left of the table, the log's words and the count.
 log_all : {call : Call} {s a b : Logged} {r q : ℕ} →
-    Carried number_of_done (λ d. LogPromise call s d a) r → Carried number_of_done (λ d. LogPromise call s d b) q →
+    Carried number_of_answer (λ d. LogPromise call s d a) r → Carried number_of_answer (λ d. LogPromise call s d b) q →
     (r ≡ q) × (a.table ≡ b.table) × (a.log ≡ b.log) × (a.count ≡ b.count)
 log_all x y =
     let both = log_one x.kept y.kept in (
-      x.same ∙ ap number_of_done both.0 ∙ sym y.same,
+      x.same ∙ ap number_of_answer both.0 ∙ sym y.same,
       ap (λ (s : Logged). s.table) both.1,
       ap (λ (s : Logged). s.log) both.1,
       ap (λ (s : Logged). s.count) both.1,

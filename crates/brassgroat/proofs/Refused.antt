@@ -5,18 +5,16 @@ use mathlib.Core.Bool.{false}
 use mathlib.Core.List.{List}
 use mathlib.Core.Logic.{◌⊎◌, inl, inr, ⊎_elim}
 use denote.Ref.{Bor}
-use Rattle.table.specs.declared.Looked.{Looked}
-use Rattle.table.specs.declared.Sought.{Sought}
-use Rattle.gamma.specs.declared.Coded.{Coded}
+use Rattle.std.specs.Prelude.{Bool, true, Result, Ok, Err, Float}
+use Rattle.table.specs.declared.Density.{Density}
+use Rattle.table.specs.declared.Drive.{Drive}
+use Rattle.table.specs.declared.Refusal.{Refusal}
 use Rattle.ieee.specs.Range.{nought}
-use Rattle.interp.specs.declared.Interpolated.{Interpolated}
-use Rattle.parametric.specs.declared.Unified.{Unified}
 use Rattle.parametric.specs.Promises.{no_curve}
+use Rattle.parametric.specs.declared.ParametricCurve.{ParametricCurve}
 use Rattle.monotonic.specs.declared.Monotonic.{Monotonic}
-use Rattle.degeneration.specs.declared.Degenerated.{Degenerated}
-use Rattle.curv.specs.declared.Counted.{Counted}
-use Rattle.para.specs.declared.Read.{Read}
 use Rattle.para.specs.Answers.{no_numbers}
+use Rattle.para.specs.declared.Numbers.{Numbers}
 use Rattle.plain_answers.specs.declared.Sample.{Sample}
 use Rattle.plain_answers.specs.declared.Position.{Position}
 use Rattle.plain_answers.specs.declared.Code.{Code}
@@ -45,6 +43,17 @@ module _ {L R : Type 0} {places : L → R} {promise : L → Type 0} {r : R} (num
       (λ e. absurd (some (ap number c.same ∙ e)))
       (λ e. c.same ∙ e ∙ ap (λ (x : R). bare (number x)) (sym c.same))
       (each c.answer)
+
+-- Of a Result it is enough that every granted answer has no number, and every refused one is bare.
+module _ {A R : Type 0} {places : Result A Refusal → R} {promise : Result A Refusal → Type 0} {r : R} (number : R → ℕ)
+    (bare : ℕ → R) (granted : (a : A) → number (places (Ok a)) ≡ 0)
+    (refused : (why : Refusal) → places (Err why) ≡ bare (number (places (Err why)))) where
+  result_refused : Carried places promise r → (number r ≡ 0 → ⊥) → r ≡ bare (number r)
+  result_refused = bare_refused number bare each
+    where
+      each : (l : Result A Refusal) → (number (places l) ≡ 0) ⊎ (places l ≡ bare (number (places l)))
+      each (Ok a) = inl (granted a)
+      each (Err why) = inr (refused why)
 
 -- What is left of each kind of answer.
 abbrev pub bare_sample : ℕ → Sample
@@ -75,89 +84,55 @@ abbrev pub bare_para : ℕ → Para
 bare_para n = record { refusal = n; count = 0; numbers = no_numbers }
 
 -- A refused sample has 0 in every other place. [brassgroat]
-pub sample_refused : {promise : Looked → Type 0} {r : Sample} → Carried as_sample promise r → (r.refusal ≡ 0 → ⊥)
+pub sample_refused : {promise : Result Density Refusal → Type 0} {r : Sample} → Carried as_sample promise r
+    → (r.refusal ≡ 0 → ⊥)
     → r ≡ bare_sample r.refusal
-sample_refused = bare_refused (λ (x : Sample). x.refusal) bare_sample each
-  where
-    each : (l : Looked) → ((as_sample l).refusal ≡ 0) ⊎ (as_sample l ≡ bare_sample (as_sample l).refusal)
-    each (Looked.At d) = inl refl
-    each (Looked.Refused why) = inr refl
+sample_refused = result_refused (λ (x : Sample). x.refusal) bare_sample (λ a. refl) (λ why. refl)
 
 -- A refused position has 0 in every other place. [brassgroat]
-pub position_refused : {promise : Sought → Type 0} {r : Position} → Carried as_position promise r → (r.refusal ≡ 0 → ⊥)
+pub position_refused : {promise : Result Drive Refusal → Type 0} {r : Position} → Carried as_position promise r
+    → (r.refusal ≡ 0 → ⊥)
     → r ≡ bare_position r.refusal
-position_refused = bare_refused (λ (x : Position). x.refusal) bare_position each
-  where
-    each : (l : Sought) → ((as_position l).refusal ≡ 0) ⊎ (as_position l ≡ bare_position (as_position l).refusal)
-    each (Sought.At p) = inl refl
-    each (Sought.Refused why) = inr refl
+position_refused = result_refused (λ (x : Position). x.refusal) bare_position (λ a. refl) (λ why. refl)
 
 -- A refused code has 0 in every other place. [brassgroat]
-pub code_refused : {promise : Coded → Type 0} {r : Code} → Carried as_code promise r → (r.refusal ≡ 0 → ⊥)
+pub code_refused : {promise : Result ℕ Refusal → Type 0} {r : Code} → Carried as_code promise r → (r.refusal ≡ 0 → ⊥)
     → r ≡ bare_code r.refusal
-code_refused = bare_refused (λ (x : Code). x.refusal) bare_code each
-  where
-    each : (l : Coded) → ((as_code l).refusal ≡ 0) ⊎ (as_code l ≡ bare_code (as_code l).refusal)
-    each (Coded.Value c) = inl refl
-    each (Coded.Refused why) = inr refl
+code_refused = result_refused (λ (x : Code). x.refusal) bare_code (λ a. refl) (λ why. refl)
 
 -- A refused float has 0 in every other place. [brassgroat]
-pub real_refused : {promise : Interpolated → Type 0} {r : Real} → Carried as_real promise r → (r.refusal ≡ 0 → ⊥)
+pub real_refused : {promise : Result Float Refusal → Type 0} {r : Real} → Carried as_real promise r
+    → (r.refusal ≡ 0 → ⊥)
     → r ≡ bare_real r.refusal
-real_refused = bare_refused (λ (x : Real). x.refusal) bare_real each
-  where
-    each : (l : Interpolated) → ((as_real l).refusal ≡ 0) ⊎ (as_real l ≡ bare_real (as_real l).refusal)
-    each (Interpolated.Value y) = inl refl
-    each (Interpolated.Refused why) = inr refl
+real_refused = result_refused (λ (x : Real). x.refusal) bare_real (λ a. refl) (λ why. refl)
 
 -- A refused curve has 0 in every other place. [brassgroat]
-pub parametric_refused : {promise : Unified → Type 0} {r : Parametric} → Carried as_parametric promise r
+pub parametric_refused : {promise : Result ParametricCurve Refusal → Type 0} {r : Parametric}
+    → Carried as_parametric promise r
     → (r.refusal ≡ 0 → ⊥) → r ≡ bare_parametric r.refusal
-parametric_refused = bare_refused (λ (x : Parametric). x.refusal) bare_parametric each
-  where
-    each : (l : Unified) → ((as_parametric l).refusal ≡ 0) ⊎ (as_parametric l
-        ≡ bare_parametric (as_parametric l).refusal)
-    each (Unified.Curve c) = inl refl
-    each (Unified.Refused why) = inr refl
+parametric_refused = result_refused (λ (x : Parametric). x.refusal) bare_parametric (λ a. refl) (λ why. refl)
 
 -- A refused verdict on monotony has 0 in every other place. [brassgroat]
-pub monotony_refused : {promise : Monotonic → Type 0} {r : Monotony} → Carried as_monotony promise r
+pub monotony_refused : {promise : Result Monotonic Refusal → Type 0} {r : Monotony} → Carried as_monotony promise r
     → (r.refusal ≡ 0 → ⊥) → r ≡ bare_monotony r.refusal
-monotony_refused = bare_refused (λ (x : Monotony). x.refusal) bare_monotony each
-  where
-    each : (l : Monotonic) → ((as_monotony l).refusal ≡ 0) ⊎ (as_monotony l ≡ bare_monotony (as_monotony l).refusal)
-    each (Monotonic.Yes v) = inl refl
-    each (Monotonic.No v) = inl refl
-    each (Monotonic.Refused why) = inr refl
+monotony_refused = result_refused (λ (x : Monotony). x.refusal) bare_monotony (λ a. refl) (λ why. refl)
 
 -- A refused verdict on degeneration has 0 in every other place. [brassgroat]
-pub degeneration_refused : {promise : Degenerated → Type 0} {r : Degeneration} → Carried as_degeneration promise r
+pub degeneration_refused : {promise : Result Bool Refusal → Type 0} {r : Degeneration}
+    → Carried as_degeneration promise r
     → (r.refusal ≡ 0 → ⊥) → r ≡ bare_degeneration r.refusal
-degeneration_refused = bare_refused (λ (x : Degeneration). x.refusal) bare_degeneration each
-  where
-    each : (l : Degenerated)
-        → ((as_degeneration l).refusal ≡ 0) ⊎ (as_degeneration l ≡ bare_degeneration (as_degeneration l).refusal)
-    each Degenerated.Yes = inl refl
-    each Degenerated.No = inl refl
-    each (Degenerated.Refused why) = inr refl
+degeneration_refused = result_refused (λ (x : Degeneration). x.refusal) bare_degeneration (λ a. refl) (λ why. refl)
 
 -- A refused count has 0 in every other place. [brassgroat]
-pub count_refused : {promise : Counted → Type 0} {r : Count} → Carried as_count promise r → (r.refusal ≡ 0 → ⊥)
+pub count_refused : {promise : Result ℕ Refusal → Type 0} {r : Count} → Carried as_count promise r → (r.refusal ≡ 0 → ⊥)
     → r ≡ bare_count r.refusal
-count_refused = bare_refused (λ (x : Count). x.refusal) bare_count each
-  where
-    each : (l : Counted) → ((as_count l).refusal ≡ 0) ⊎ (as_count l ≡ bare_count (as_count l).refusal)
-    each (Counted.Entries n) = inl refl
-    each (Counted.Refused why) = inr refl
+count_refused = result_refused (λ (x : Count). x.refusal) bare_count (λ a. refl) (λ why. refl)
 
 -- A refused para tag has 0 in every other place. [brassgroat]
-pub para_refused : {promise : Read → Type 0} {r : Para} → Carried as_para promise r → (r.refusal ≡ 0 → ⊥)
+pub para_refused : {promise : Result (ℕ × Numbers) Refusal → Type 0} {r : Para} → Carried as_para promise r
+    → (r.refusal ≡ 0 → ⊥)
     → r ≡ bare_para r.refusal
-para_refused = bare_refused (λ (x : Para). x.refusal) bare_para each
-  where
-    each : (l : Read) → ((as_para l).refusal ≡ 0) ⊎ (as_para l ≡ bare_para (as_para l).refusal)
-    each (Read.Parameters n m) = inl refl
-    each (Read.Refused why) = inr refl
+para_refused = result_refused (λ (x : Para). x.refusal) bare_para (λ a. refl) (λ why. refl)
 
 -- A refused part of a tag has 0 in every other place. [brassgroat]
 pub part_bare : {tag : Bor (List ℕ)} {r : Part} → PartCarried tag r → (r.refusal ≡ 0 → ⊥)

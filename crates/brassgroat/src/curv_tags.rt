@@ -1,5 +1,5 @@
 // Exports on the curv tag.
-ghost use Rattle.table.specs.Answers.{number_of_done};
+ghost use Rattle.table.specs.Answers.{number_of_answer};
 ghost use Rattle.curv.specs.Promises.{CountPromise};
 ghost use Rattle.curv_reader.specs.Promises.{ReadPromise};
 ghost use Rattle.curv_writer.specs.Promises.{WritePromise};
@@ -11,7 +11,7 @@ use curv_part::entry_bytes;
 use curv_reader::read_curv;
 use curv_writer::write_curv;
 use plain_answers::Count;
-use plain_answers::inside::{as_count, number_of_done};
+use plain_answers::inside::number_of_answer;
 
 // Which part of a tag its entries' bytes are: a slice does not cross back, so where it starts and how long it is.
 #[repr(C)]
@@ -26,15 +26,15 @@ pub struct Part {
 pub extern "C" fn bg_curv_count(tag: &[u8]) -> Count
     ensures { Carried as_count (CountPromise tag.now) result }
 {
-    as_count(count_entries(tag))
+    count_entries(tag).into()
 }
 
 #[unsafe(no_mangle)]
 pub extern "C" fn bg_curv_read(tag: &[u8], out: &mut [u16]) -> u32
-    ensures { Carried number_of_done
+    ensures { Carried number_of_answer
         (λ d. ReadPromise tag.now out.old d out.new) result }
 {
-    number_of_done(read_curv(tag, out))
+    number_of_answer(read_curv(tag, out))
 }
 
 #[unsafe(no_mangle)]
@@ -59,8 +59,8 @@ pub extern "C" fn bg_curv_part(tag: &[u8]) -> Part
 
 #[unsafe(no_mangle)]
 pub extern "C" fn bg_curv_write(table: &[u16], out: &mut [u8]) -> u32
-    ensures { Carried number_of_done
+    ensures { Carried number_of_answer
         (λ d. WritePromise table.now out.old d out.new) result }
 {
-    number_of_done(write_curv(table, out))
+    number_of_answer(write_curv(table, out))
 }

@@ -1,5 +1,5 @@
 // Exports that look up.
-ghost use Rattle.table.specs.Answers.{number_of_done};
+ghost use Rattle.table.specs.Answers.{number_of_answer};
 ghost use Rattle.lookup.specs.Promises.{LookupPromise};
 ghost use Rattle.rows.specs.Promises.{RowPromise, BakePromise};
 ghost use Rattle.gamma.specs.Promises.{GammaPromise};
@@ -8,7 +8,7 @@ ghost use Rattle.plain_answers.specs.Answers.{as_sample, as_code};
 
 use gamma::lut_interp_linear_gamma_impl;
 use lookup::lut_interp_linear16;
-use plain_answers::inside::{as_code, as_sample, number_of_done};
+use plain_answers::inside::number_of_answer;
 use plain_answers::{Code, Sample};
 use rows::{bake, lut_interp_linear16_row};
 use table::Drive;
@@ -17,7 +17,7 @@ use table::Drive;
 pub extern "C" fn bg_lut_interp_linear16(table: &[u16], position: Drive) -> Sample
     ensures { Carried as_sample (LookupPromise table.now position) result }
 {
-    as_sample(lut_interp_linear16(table, position))
+    lut_interp_linear16(table, position).into()
 }
 
 #[unsafe(no_mangle)]
@@ -26,18 +26,18 @@ pub extern "C" fn bg_lut_interp_linear16_row(
     positions: &[u16],
     out: &mut [u16],
 ) -> u32
-    ensures { Carried number_of_done
+    ensures { Carried number_of_answer
         (λ d. RowPromise table.now positions.now out.old d out.new) result }
 {
-    number_of_done(lut_interp_linear16_row(table, positions, out))
+    number_of_answer(lut_interp_linear16_row(table, positions, out))
 }
 
 #[unsafe(no_mangle)]
 pub extern "C" fn bg_bake(table: &[u16], out: &mut [u16]) -> u32
-    ensures { Carried number_of_done
+    ensures { Carried number_of_answer
         (λ d. BakePromise table.now out.old d out.new) result }
 {
-    number_of_done(bake(table, out))
+    number_of_answer(bake(table, out))
 }
 
 #[unsafe(no_mangle)]
@@ -49,5 +49,5 @@ pub extern "C" fn bg_lut_interp_linear_gamma_impl(
 ) -> Code
     ensures { Carried as_code (GammaPromise table.now inputs depth input) result }
 {
-    as_code(lut_interp_linear_gamma_impl(table, inputs, depth, input))
+    lut_interp_linear_gamma_impl(table, inputs, depth, input).into()
 }

@@ -5,13 +5,12 @@ ghost use Rattle.plain_answers.specs.Answers.{as_parametric};
 
 use parametric::{ParametricCurve, compare_parametric};
 use plain_answers::Parametric;
-use plain_answers::inside::as_parametric;
 
 #[unsafe(no_mangle)]
 pub extern "C" fn bg_parametric_curve_new(params: &[f32]) -> Parametric
     ensures { Carried as_parametric (NewPromise params.now) result }
 {
-    as_parametric(ParametricCurve::new(params))
+    ParametricCurve::new(params).into()
 }
 
 #[unsafe(no_mangle)]

@@ -6,19 +6,19 @@ ghost use Rattle.plain_answers.specs.Answers.{as_direction, as_monotony, as_dege
 
 use degeneration::is_curve_degenerated;
 use monotonic::is_curve_monotonic;
-use plain_answers::inside::{as_degeneration, as_direction, as_monotony};
+use plain_answers::inside::as_direction;
 use plain_answers::{Degeneration, Monotony};
 
 #[unsafe(no_mangle)]
 pub extern "C" fn bg_is_curve_monotonic(table: &[u16], rising: bool) -> Monotony
     ensures { Carried as_monotony (MonotonicPromise table.now (as_direction rising)) result }
 {
-    as_monotony(is_curve_monotonic(table, as_direction(rising)))
+    is_curve_monotonic(table, as_direction(rising)).into()
 }
 
 #[unsafe(no_mangle)]
 pub extern "C" fn bg_is_curve_degenerated(table: &[u16]) -> Degeneration
     ensures { Carried as_degeneration (DegeneratedPromise table.now) result }
 {
-    as_degeneration(is_curve_degenerated(table))
+    is_curve_degenerated(table).into()
 }

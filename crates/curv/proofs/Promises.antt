@@ -5,11 +5,13 @@ use mathlib.Core.List.{List}
 use Prim.Native.Nat.{ℕ, ◌+◌, ◌*◌, ◌≤◌}
 use native.Mathlib.Omega.{arith}
 use lib.ListN.{length}
+use Rattle.std.specs.Prelude.{Result, Ok, Err}
 use Rattle.table.specs.Refusals.{Verdict, granted, refused, number_in, if_granted}
+use Rattle.table.specs.Answers.{number_of_answer}
 use Rattle.table.specs.declared.Refusal.{Refusal}
-use Rattle.table.proofs.Refusals.{same_refusal, number_above, same_verdict}
-use Rattle.curv.specs.declared.Counted.{Counted}
-use Rattle.curv.specs.Answers.{number_of_counted, value_of_counted}
+use Rattle.table.proofs.Refusals.{same_verdict}
+use Rattle.table.proofs.Answers.{same_answer}
+use Rattle.curv.specs.Answers.{value_of_counted}
 use Rattle.curv.specs.Tag.{count_of}
 use Rattle.curv.specs.Promises.{tag_verdict, CountPromise}
 use Rattle.curv.proofs.Checks.{readable, total_room}
@@ -31,24 +33,24 @@ pub record Granted (b : List ℕ) (n : ℕ) : Type 0 where
 
 module _ (b : List ℕ) where
   -- Where the tests refuse the tag, that refusal keeps the promise. [curv::count_entries]
-  pub count_refused : (why : Refusal) → tag_verdict b ≡ refused why → CountPromise b (Counted.Refused why)
+  pub count_refused : (why : Refusal) → tag_verdict b ≡ refused why → CountPromise b (Err why)
   count_refused why e = record { number = verdict_number e; value = verdict_gives (count_of b) 0 e }
 
   -- Where the tests pass, the tag's count keeps the promise. [curv::count_entries]
-  pub count_granted : (n : ℕ) → tag_verdict b ≡ granted → n ≡ count_of b → CountPromise b (Counted.Entries n)
+  pub count_granted : (n : ℕ) → tag_verdict b ≡ granted → n ≡ count_of b → CountPromise b (Ok n)
   count_granted n e c = record { number = verdict_number e; value = c ∙ verdict_gives (count_of b) 0 e }
 
   -- what the answer r of a count tells
-  module _ (r : Counted) (p : CountPromise b r) where
+  module _ (r : Result ℕ Refusal) (p : CountPromise b r) where
     -- An answered refusal is the one that the tests come to. [curv::count_entries]
-    pub refused_count : (why : Refusal) → r ≡ Counted.Refused why → tag_verdict b ≡ refused why
-    refused_count why e = sym (same_verdict (refused why) (tag_verdict b) (ap number_of_counted (sym e) ∙ p.number))
+    pub refused_count : (why : Refusal) → r ≡ Err why → tag_verdict b ≡ refused why
+    refused_count why e = sym (same_verdict (refused why) (tag_verdict b) (ap number_of_answer (sym e) ∙ p.number))
 
     -- An answered count is the tag's, and the tag has passed the tests. [curv::count_entries]
-    pub granted_count : (n : ℕ) → r ≡ Counted.Entries n → Granted b n
+    pub granted_count : (n : ℕ) → r ≡ Ok n → Granted b n
     granted_count n e =
         let g : tag_verdict b ≡ granted =
-        sym (same_verdict granted (tag_verdict b) (ap number_of_counted (sym e) ∙ p.number)) in
+        sym (same_verdict granted (tag_verdict b) (ap number_of_answer (sym e) ∙ p.number)) in
         let c : count_of b ≡ n = verdict_gives (count_of b) 0 g ∙ sym p.value ∙ ap value_of_counted e in
         let ok = readable b g in
         record {
@@ -59,12 +61,9 @@ module _ (b : List ℕ) where
         }
 
 -- The promise names one answer.
-same_counted : (r s : Counted) → number_of_counted r ≡ number_of_counted s
+same_counted : (r s : Result ℕ Refusal) → number_of_answer r ≡ number_of_answer s
     → value_of_counted r ≡ value_of_counted s → r ≡ s
-same_counted (Counted.Entries m) (Counted.Entries n) e v = ap Counted.Entries v
-same_counted (Counted.Entries m) (Counted.Refused b) e v = absurd (omega (arith, number_above b))
-same_counted (Counted.Refused a) (Counted.Entries n) e v = absurd (omega (arith, number_above a))
-same_counted (Counted.Refused a) (Counted.Refused b) e v = ap Counted.Refused (same_refusal a b e)
+same_counted = same_answer value_of_counted (λ m n v. v)
 
-pub count_one : {b : List ℕ} {r s : Counted} → CountPromise b r → CountPromise b s → r ≡ s
+pub count_one : {b : List ℕ} {r s : Result ℕ Refusal} → CountPromise b r → CountPromise b s → r ≡ s
 count_one {b} {r} {s} p q = same_counted r s (p.number ∙ sym q.number) (p.value ∙ sym q.value)

@@ -3,9 +3,9 @@
 use mathlib.Core.Path.{refl}
 use mathlib.Core.List.{List, [], ◌∷◌}
 use Prim.Native.Nat.{ℕ}
+use Rattle.std.specs.Prelude.{Ok}
 use Rattle.icc.specs.Bytes.{EightBits, be32}
 use Rattle.icc.proofs.Widths.{eight_tested}
-use Rattle.curv.specs.declared.Counted.{Counted}
 use Rattle.curv.specs.Tag.{total}
 use Rattle.curv.specs.Promises.{tag_verdict, CountPromise}
 
@@ -25,10 +25,10 @@ two = begun (0 ∷ 0 ∷ 0 ∷ 2 ∷ 18 ∷ 52 ∷ 255 ∷ 254 ∷ [])
 pub two_eight : EightBits two
 two_eight = eight_tested two refl
 
-none_counted : CountPromise none (Counted.Entries 0)
+none_counted : CountPromise none (Ok 0)
 unfolding tag_verdict total be32
 none_counted = record { number = refl; value = refl }
 
-two_counted : CountPromise two (Counted.Entries 2)
+two_counted : CountPromise two (Ok 2)
 unfolding tag_verdict total be32
 two_counted = record { number = refl; value = refl }

@@ -1,12 +1,8 @@
 -- Document 01's number and value for each case of a count's answer. Assumes nothing.
-use Rattle.std.specs.Prelude.{ℕ}
+use Rattle.std.specs.Prelude.{ℕ, Result, Ok, Err}
 use Rattle.table.specs.Refusals.{number_of}
-use Rattle.curv.specs.declared.Counted.{Counted}
+use Rattle.table.specs.declared.Refusal.{Refusal}
 
-abbrev pub number_of_counted : Counted → ℕ
-number_of_counted (Counted.Entries n) = 0
-number_of_counted (Counted.Refused why) = number_of why
-
-abbrev pub value_of_counted : Counted → ℕ
-value_of_counted (Counted.Entries n) = n
-value_of_counted (Counted.Refused why) = 0
+abbrev pub value_of_counted : Result ℕ Refusal → ℕ
+value_of_counted (Ok n) = n
+value_of_counted (Err why) = 0

@@ -8,32 +8,26 @@ use table::Refusal;
 
 pub mod inside;
 
-// The answer of a call that counts a tag's entries.
-#[derive(Clone, Copy)]
-pub enum Counted {
-    Entries(usize),
-    Refused(Refusal),
-}
-
-// How many entries a tag has, and so how long a buffer `read_curv` asks for.
-pub fn count_entries(tag: &[u8]) -> Counted
+// How many entries a tag has, and so how long a buffer `read_curv` asks for. Its first tests are not shared with
+// para's: edits of each crate are slips of their order.
+pub fn count_entries(tag: &[u8]) -> Result<usize, Refusal>
     ensures { CountPromise tag.now result }
 {
     if tag.len() < 12 {
-        return Counted::Refused(Refusal::TagLength);
+        return Err(Refusal::TagLength);
     }
     if u32_at(tag, 0) != inside::SIGNATURE {
-        return Counted::Refused(Refusal::WrongSignature);
+        return Err(Refusal::WrongSignature);
     }
     if u32_at(tag, 4) != 0 {
-        return Counted::Refused(Refusal::ReservedNotZero);
+        return Err(Refusal::ReservedNotZero);
     }
     let n = u32_at(tag, 8) as usize;
     if inside::MOST < n {
-        return Counted::Refused(Refusal::TableLength);
+        return Err(Refusal::TableLength);
     }
     if tag.len() != inside::tag_length(n) {
-        return Counted::Refused(Refusal::TagLength);
+        return Err(Refusal::TagLength);
     }
-    Counted::Entries(n)
+    Ok(n)
 }

@@ -6,9 +6,9 @@ use Prim.Native.Nat.{ℕ}
 use native.Mathlib.Omega.{arith}
 use borrow.Author.Tests.{eq-eqb, ne_eqb, eqb-true}
 use lib.ListN.{length}
+use Rattle.std.specs.Prelude.{Result, Ok, Err}
 use Rattle.table.specs.Refusals.{Verdict, granted, refused, and_then}
 use Rattle.table.specs.Fill.{tabulated}
-use Rattle.table.specs.declared.Done.{Done}
 use Rattle.table.specs.declared.Refusal.{Refusal}
 use Rattle.table.specs.declared.Refusal.TheVariants.{OutputLength}
 use Rattle.table.proofs.Refusals.{same_verdict, rung_granted}
@@ -23,22 +23,22 @@ and_then_granted granted w e = (refl, e)
 and_then_granted (refused why) w e = let z : ◌≡◌ {A = ℕ} 0 1 = cc in absurd (omega arith)
 
 module _ (b out : List ℕ) where
-  read_refusal : (why : Refusal) → read_verdict b out ≡ refused why → ReadPromise b out (Done.Refused why) out
+  read_refusal : (why : Refusal) → read_verdict b out ≡ refused why → ReadPromise b out (Err why) out
   read_refusal why e = record { number = verdict_number e; after = verdict_gives (entries_of b) out e }
 
   -- Where the tests refuse the tag, that refusal and the buffer as it was keep the promise. [curv_reader::read_curv]
-  pub read_refused : (why : Refusal) → tag_verdict b ≡ refused why → ReadPromise b out (Done.Refused why) out
+  pub read_refused : (why : Refusal) → tag_verdict b ≡ refused why → ReadPromise b out (Err why) out
   read_refused why e = read_refusal why (rw e refl)
 
   -- With a buffer of another length, refusing with 6 and leaving it keeps the promise. [curv_reader::read_curv]
   pub read_misfit : tag_verdict b ≡ granted → (length out ≡ count_of b → ⊥)
-      → ReadPromise b out (Done.Refused OutputLength) out
+      → ReadPromise b out (Err OutputLength) out
   read_misfit e n = read_refusal OutputLength (rw (e, ne_eqb _ _ n) refl)
 
   -- Where the tests pass, a buffer of the tag's count that holds its entries keeps the promise.
   -- [curv_reader::read_curv]
   pub read_granted : (out' : List ℕ) → tag_verdict b ≡ granted → length out ≡ count_of b
-      → out' ≡ tabulated (entry_at b) (length out) → ReadPromise b out Done.Yes out'
+      → out' ≡ tabulated (entry_at b) (length out) → ReadPromise b out (Ok tt) out'
   read_granted out' e n f =
       let g : read_verdict b out ≡ granted = rw (e, eq-eqb _ _ n) refl in
       record {
@@ -49,7 +49,7 @@ module _ (b out : List ℕ) where
 
   -- A granted read had a tag that passes the tests and a buffer of its count, which then holds its entries.
   -- [curv_reader::read_curv]
-  pub granted_read : {out' : List ℕ} → ReadPromise b out Done.Yes out'
+  pub granted_read : {out' : List ℕ} → ReadPromise b out (Ok tt) out'
       → (tag_verdict b ≡ granted) × (length out ≡ count_of b) × (out' ≡ entries_of b)
   granted_read p =
       let g : read_verdict b out ≡ granted = sym (same_verdict granted (read_verdict b out) p.number) in
@@ -57,6 +57,7 @@ module _ (b out : List ℕ) where
       (v.0, eqb-true _ _ (rung_granted _ _ _ v.1).0, p.after ∙ verdict_gives (entries_of b) out (sym g))
 
 -- The promise names one answer and one later state.
-pub read_one : {b out out' out'' : List ℕ} {r s : Done} → ReadPromise b out r out' → ReadPromise b out s out''
+pub read_one : {b out out' out'' : List ℕ} {r s : Result (Unit {0}) Refusal} → ReadPromise b out r out'
+    → ReadPromise b out s out''
     → (r ≡ s) × (out' ≡ out'')
 read_one {r = r} {s = s} p q = (same_done r s (p.number ∙ sym q.number), p.after ∙ sym q.after)

@@ -7,17 +7,17 @@ use native.Mathlib.Omega.{arith}
 use denote.Ref.{Bor}
 use lib.ListN.{length, take, drop}
 use lib.Seq.{take-add, take_all, drop_at}
+use Rattle.std.specs.Prelude.{Result, Ok}
 use Rattle.table.specs.Refusals.{Verdict, granted, refused, number_in}
 use Rattle.table.specs.Order.{SixteenBits}
-use Rattle.table.specs.declared.Done.{Done}
 use Rattle.table.specs.Fill.{tabulated}
+use Rattle.table.specs.declared.Refusal.{Refusal}
 use Rattle.table.proofs.Fill.{length_tabulated}
 use Rattle.icc.specs.Bytes.{EightBits}
 use Rattle.icc.proofs.Numbers.{bytes_be32}
 use Rattle.icc.specs.Opening.{opening}
 use Rattle.icc.proofs.Opening.{opens}
 use Rattle.icc.proofs.Words.{two_bytes, length_words, words_back, words_kept}
-use Rattle.curv.specs.declared.Counted.{Counted}
 use Rattle.curv.specs.Tag.{signature, count_of, entry_at, entries_of, tag_length}
 use Rattle.curv.specs.Promises.{tag_verdict, CountPromise}
 use Rattle.curv_reader.specs.Promises.{ReadPromise}
@@ -59,7 +59,7 @@ tag_rewritten b w r =
     ∙ take_all (12 + 2 * n) b all
 
 -- What is written is counted, read and handed back as what it was written from.
-module _ {t out tag : List ℕ} (written : WritePromise t out Done.Yes tag) where
+module _ {t out tag : List ℕ} (written : WritePromise t out (Ok tt) tag) where
   tag_stated : tag ≡ tag_of t
   tag_stated = (granted_write t out written).2
 
@@ -79,12 +79,13 @@ module _ {t out tag : List ℕ} (written : WritePromise t out Done.Yes tag) wher
       (take_all (2 * length t) (bytes_of t) (omega (arith, length_words two_bytes t)))
 
   -- A written tag counts as the table's length. [curv_writer::write_curv, curv::count_entries]
-  pub written_counts : {r : Counted} → CountPromise tag r → r ≡ Counted.Entries (length t)
+  pub written_counts : {r : Result ℕ Refusal} → CountPromise tag r → r ≡ Ok (length t)
   written_counts p = count_one p (count_granted tag (length t) granted_stated (sym count_stated))
 
   -- A written tag reads as the table, into a buffer of its length. [curv_writer::write_curv, curv_reader::read_curv]
-  pub written_reads : {buffer t' : List ℕ} {r : Done} → length buffer ≡ length t → ReadPromise tag buffer r t'
-      → (r ≡ Done.Yes) × (t' ≡ t)
+  pub written_reads : {buffer t' : List ℕ} {r : Result (Unit {0}) Refusal} → length buffer ≡ length t
+      → ReadPromise tag buffer r t'
+      → (r ≡ Ok tt) × (t' ≡ t)
   written_reads {buffer} e p =
       let n : length buffer ≡ count_of tag = e ∙ sym count_stated in
       let s = read_one p (read_granted tag buffer _ granted_stated n refl) in
@@ -99,9 +100,10 @@ module _ {t out tag : List ℕ} (written : WritePromise t out Done.Yes tag) wher
 
 -- Tag bytes that are read are written back the same, into a buffer of their length. [curv_writer::write_curv,
 -- curv_reader::read_curv]
-pub read_writes : {b out t buffer b' : List ℕ} {r : Done} → EightBits b → ReadPromise b out Done.Yes t
+pub read_writes : {b out t buffer b' : List ℕ} {r : Result (Unit {0}) Refusal} → EightBits b
+    → ReadPromise b out (Ok tt) t
     → length buffer ≡ length b → WritePromise t buffer r b'
-    → (r ≡ Done.Yes) × (b' ≡ b)
+    → (r ≡ Ok tt) × (b' ≡ b)
 read_writes {b} {out} {t} {buffer} w read e p =
     let g = granted_read b out read in
     let ok : Readable b = readable b g.0 in
@@ -112,13 +114,13 @@ read_writes {b} {out} {t} {buffer} w read e p =
     (s.0, s.1 ∙ ap tag_of g.2 ∙ tag_rewritten b w ok)
 
 -- What is written for 16-bit entries is bytes, eight bits wide. [curv_writer::write_curv]
-pub written_eight : {t out tag : List ℕ} → SixteenBits t → WritePromise t out Done.Yes tag → EightBits tag
+pub written_eight : {t out tag : List ℕ} → SixteenBits t → WritePromise t out (Ok tt) tag → EightBits tag
 written_eight {t} {out} wide written =
     let g = granted_write t out written in
     rw g.2 (tag_eight t g.0 wide)
 
 -- Of 16-bit entries a write, whatever it answers, leaves bytes where bytes were. [curv_writer::write_curv]
-pub write_keeps_eight : {t out out' : List ℕ} {r : Done}
+pub write_keeps_eight : {t out out' : List ℕ} {r : Result (Unit {0}) Refusal}
     → SixteenBits t → EightBits out → WritePromise t out r out' → EightBits out'
 write_keeps_eight {t} {out} {out'} wide eight p = go (write_verdict t out) refl
   where
@@ -128,10 +130,10 @@ write_keeps_eight {t} {out} {out'} wide eight p = go (write_verdict t out) refl
 
 -- What was written is read, and written again the same. Nothing is asked of its bytes: a write leaves what
 -- `read_writes` asks for. [curv_writer::write_curv]
-pub written_rewrites : {t out tag buffer t' again tag' : List ℕ} {q r : Done} → SixteenBits t
-    → WritePromise t out Done.Yes tag
+pub written_rewrites : {t out tag buffer t' again tag' : List ℕ} {q r : Result (Unit {0}) Refusal} → SixteenBits t
+    → WritePromise t out (Ok tt) tag
     → length buffer ≡ length t → ReadPromise tag buffer q t' → length again ≡ length tag → WritePromise t' again r tag'
-    → (r ≡ Done.Yes) × (tag' ≡ tag)
+    → (r ≡ Ok tt) × (tag' ≡ tag)
 written_rewrites {tag = tag} {buffer = buffer} {t' = t'} wide written e read room p =
-    let yes : ReadPromise tag buffer Done.Yes t' = rw (written_reads written e read).0 at read in
+    let yes : ReadPromise tag buffer (Ok tt) t' = rw (written_reads written e read).0 at read in
     read_writes (written_eight wide written) yes room p

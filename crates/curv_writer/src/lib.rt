@@ -8,7 +8,7 @@ ghost use Rattle.curv_writer.specs.Promises.{WritePromise};
 
 use curv::inside::{MOST, SIGNATURE, tag_length};
 use icc::inside::{put_opening, put_u16, put_u32};
-use table::{Done, Refusal};
+use table::Refusal;
 
 // The first twelve bytes of a tag of n entries.
 fn put_head(out: &mut [u8], n: u32)
@@ -24,24 +24,22 @@ fn put_entries(table: &[u16], out: &mut [u8])
     requires { length out.old ≡ tag_length (length table.now) }
     ensures { out.new ≡ take 12 out.old ++ bytes_of table.now }
 {
-    let mut i = 0;
-    while i < table.len() {
-        put_u16(out, 12 + 2 * i, table[i]);
-        i += 1;
+    for (i, entry) in table.iter().enumerate() {
+        put_u16(out, 12 + 2 * i, *entry);
     }
 }
 
 // Writes a table as a tag.
-pub fn write_curv(table: &[u16], out: &mut [u8]) -> Done
+pub fn write_curv(table: &[u16], out: &mut [u8]) -> Result<(), Refusal>
     ensures { WritePromise table.now out.old result out.new }
 {
     if MOST < table.len() {
-        return Done::Refused(Refusal::TableLength);
+        return Err(Refusal::TableLength);
     }
     if out.len() != tag_length(table.len()) {
-        return Done::Refused(Refusal::OutputLength);
+        return Err(Refusal::OutputLength);
     }
     put_head(out, table.len() as u32);
     put_entries(table, out);
-    Done::Yes
+    Ok(())
 }

@@ -5,10 +5,10 @@
 use mathlib.Core.Path.{◌≡◌, ◌∙◌, refl, sym, ap}
 use mathlib.Core.Bool.{true}
 use lib.ListN.{length}
+use Rattle.std.specs.Prelude.{Result, Ok, Err}
 use Rattle.table.specs.Sizes.{sized, spanned}
 use Rattle.table.specs.Order.{nondecreasing}
 use Rattle.table.specs.Refusals.{granted, if_granted}
-use Rattle.table.specs.declared.Done.{Done}
 use Rattle.table.specs.declared.Refusal.{Refusal}
 use Rattle.table.specs.declared.Refusal.TheVariants.{TableLength, NotNondecreasing}
 use Rattle.table.proofs.Refusals.{rung_granted}
@@ -22,22 +22,24 @@ pub start_some : (s : Sitting) → StartPromise s (done_by (start_verdict s))
 start_some s = record { number = done_number (start_verdict s); table = refl }
 
 module _ {s : Sitting} where
-  pub start_one : {r q : Done} {s' s'' : Sitting} → StartPromise s r s' → StartPromise s q s'' → (r ≡ q) × (s' ≡ s'')
+  pub start_one : {r q : Result (Unit {0}) Refusal} {s' s'' : Sitting} → StartPromise s r s' → StartPromise s q s''
+      → (r ≡ q) × (s' ≡ s'')
   start_one {r} {q} a b = (same_done r q (a.number ∙ sym b.number), ap sitting_on (a.table ∙ sym b.table))
 
   -- Start answers what its tests come to. [curve::start]
-  pub start_answer : {r : Done} {s' : Sitting} → StartPromise s r s' → r ≡ done_by (start_verdict s)
+  pub start_answer : {r : Result (Unit {0}) Refusal} {s' : Sitting} → StartPromise s r s'
+      → r ≡ done_by (start_verdict s)
   start_answer a = done_is (start_verdict s) a.number
 
   -- A granted start had 2 to 65,536 entries, and leaves the straight curve of so many. [curve::start]
-  pub start_granted : {s' : Sitting} → StartPromise s Done.Yes s'
+  pub start_granted : {s' : Sitting} → StartPromise s (Ok tt) s'
       → (spanned (length s.table) ≡ true) × (s'.table ≡ ramp_of (length s.table))
   start_granted a =
       let w = done_granted (start_verdict s) a.number in
       ((rung_granted (spanned (length s.table)) TableLength granted w).0, a.table ∙ simp w)
 
   -- A refused start leaves the table as it was. [curve::start]
-  pub start_refused : {why : Refusal} {s' : Sitting} → StartPromise s (Done.Refused why) s' → s' ≡ s
+  pub start_refused : {why : Refusal} {s' : Sitting} → StartPromise s (Err why) s' → s' ≡ s
   start_refused {why} a = ap sitting_on (a.table ∙ simp (done_refused (start_verdict s) why a.number))
 
 -- The promise of accept can be kept. [curve::accept]
@@ -45,19 +47,21 @@ pub accept_some : (s : Sitting) → AcceptPromise s (done_by (accept_verdict s))
 accept_some s = record { number = done_number (accept_verdict s); table = refl }
 
 module _ {s : Sitting} where
-  pub accept_one : {r q : Done} {s' s'' : Sitting} → AcceptPromise s r s' → AcceptPromise s q s'' → (r ≡ q) × (s' ≡ s'')
+  pub accept_one : {r q : Result (Unit {0}) Refusal} {s' s'' : Sitting} → AcceptPromise s r s' → AcceptPromise s q s''
+      → (r ≡ q) × (s' ≡ s'')
   accept_one {r} {q} a b = (same_done r q (a.number ∙ sym b.number), ap sitting_on (a.table ∙ sym b.table))
 
   -- Accept answers what its tests come to. [curve::accept]
-  pub accept_answer : {r : Done} {s' : Sitting} → AcceptPromise s r s' → r ≡ done_by (accept_verdict s)
+  pub accept_answer : {r : Result (Unit {0}) Refusal} {s' : Sitting} → AcceptPromise s r s'
+      → r ≡ done_by (accept_verdict s)
   accept_answer a = done_is (accept_verdict s) a.number
 
   -- Accept leaves the table as it was. [curve::accept]
-  pub accept_same : {r : Done} {s' : Sitting} → AcceptPromise s r s' → s' ≡ s
+  pub accept_same : {r : Result (Unit {0}) Refusal} {s' : Sitting} → AcceptPromise s r s' → s' ≡ s
   accept_same a = ap sitting_on a.table
 
   -- A granted accept had 1 to 65,536 entries, and these are nondecreasing. [curve::accept]
-  pub accept_granted : {s' : Sitting} → AcceptPromise s Done.Yes s'
+  pub accept_granted : {s' : Sitting} → AcceptPromise s (Ok tt) s'
       → (sized (length s.table) ≡ true) × (nondecreasing s.table ≡ true)
   accept_granted a =
       let w = rung_granted (sized (length s.table)) TableLength _ (done_granted (accept_verdict s) a.number) in

@@ -6,22 +6,23 @@ ghost use Rattle.table.specs.Sizes.{spanned};
 ghost use Rattle.curve.specs.Ramp.{ramp_of};
 ghost use Rattle.curve.specs.Promises.{sitting_on, StartPromise, AcceptPromise};
 
-use table::{Done, Refusal, in_order, sized, spanned};
+use table::inside::fill;
+use table::{Refusal, in_order, sized, spanned};
 
 pub mod inside;
 
 // Whether the table, from wherever it came, may be nudged and read backwards. It is lent to be read, so what it holds
 // after is what it held.
-pub fn accept(table: &[u16]) -> Done
+pub fn accept(table: &[u16]) -> Result<(), Refusal>
     ensures { AcceptPromise (sitting_on table.now) result (sitting_on table.now) }
 {
     if !sized(table.len()) {
-        return Done::Refused(Refusal::TableLength);
+        return Err(Refusal::TableLength);
     }
     if !in_order(table) {
-        return Done::Refused(Refusal::NotNondecreasing);
+        return Err(Refusal::NotNondecreasing);
     }
-    Done::Yes
+    Ok(())
 }
 
 // The straight curve over the whole table.
@@ -30,20 +31,16 @@ fn fill_ramp(table: &mut [u16])
     ensures { table.new ≡ ramp_of (length table.old) }
 {
     let n = table.len();
-    let mut i = 0;
-    while i < n {
-        table[i] = inside::ramp(n, i);
-        i += 1;
-    }
+    fill(table, |i| inside::ramp(n, i));
 }
 
 // Makes the lent table the straight curve of as many entries as it has.
-pub fn start(table: &mut [u16]) -> Done
+pub fn start(table: &mut [u16]) -> Result<(), Refusal>
     ensures { StartPromise (sitting_on table.old) result (sitting_on table.new) }
 {
     if !spanned(table.len()) {
-        return Done::Refused(Refusal::TableLength);
+        return Err(Refusal::TableLength);
     }
     fill_ramp(table);
-    Done::Yes
+    Ok(())
 }

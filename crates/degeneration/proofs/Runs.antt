@@ -1,38 +1,40 @@
--- The walk that counts the run at either end of a table. Assumes nothing.
-use mathlib.Core.Path.{◌≡◌, ◌∙◌, refl, ap}
-use mathlib.Core.List.{List}
-use Prim.Native.Nat.{ℕ, ◌+◌, ◌≤◌, ◌<◌}
-use lib.ListN.{length, get_or, length-reverse}
+-- The run at an end of a table is as long as what an iterator from that end takes while its items equal the first.
+-- Assumes nothing.
+use mathlib.Core.Path.{◌≡◌, ◌∙◌, refl}
+use mathlib.Core.Bool.{Bool, true, false, cond}
+use mathlib.Core.List.{List, [], ◌∷◌, reverse}
+use Prim.Native.Nat.{ℕ, suc, ◌+◌, ◌-◌, ◌<◌}
+use native.Mathlib.Omega.{arith}
+use lib.Dec.{eqb}
+use lib.ListN.{length, get_or}
+use Rattle.std.specs.List.{take_while, prefix_len}
+use Rattle.std.proofs.lemmas.List.Folds.{length-prefix_len}
+use Rattle.table.specs.Choice.{pick}
 use Rattle.table.specs.Runs.{run}
-use Rattle.table.proofs.Runs.{Counting, counting_start, counting_more, counting_stop, counting_end}
-use Rattle.degeneration.specs.Runs.{leading}
-use Rattle.degeneration.specs.Inside.{read_from}
-use Rattle.degeneration.specs.declared.End.{End}
-use Rattle.degeneration.specs.declared.End.TheVariants.{First, Last}
+use Rattle.table.proofs.Runs.{get_or_reverse}
+use Rattle.degeneration.specs.Runs.{leading, trailing}
 
-length_read : (end : End) (t : List ℕ) → length (read_from end t) ≡ length t
-length_read First t = refl
-length_read Last t = length-reverse t
+prefix_run : (y : ℕ) (l : List ℕ) → prefix_len (λ x. eqb x y) l ≡ run y l
+unfolding run
+prefix_run y [] = refl
+prefix_run y (x ∷ l) =
+    elim (eqb x y) as (λ (b : Bool). cond b (1 + prefix_len (λ x. eqb x y) l) 0 ≡ pick b (suc (run y l)) 0) [
+      | false ↦ refl
+      | true ↦ omega (arith, prefix_run y l)
+    ]
 
--- the walk from an end, whose entry is x: so far every entry is in the run
-pub record Passed (end : End) (t : List ℕ) (x i : ℕ) : Type 0 where
-  pub first : x ≡ get_or (read_from end t) 0 0
-  pub counting : Counting x (read_from end t) i
+taken_run : (y : ℕ) (l : List ℕ) → length (take_while (λ x. eqb x y) l) ≡ run y l
+taken_run y l = length-prefix_len (λ x. eqb x y) l ∙ prefix_run y l
 
-module _ (end : End) (t : List ℕ) (x : ℕ) where
-  pub passed_start : x ≡ get_or (read_from end t) 0 0 → Passed end t x 0
-  passed_start e = record { first = e; counting = counting_start }
+module _ (t : List ℕ) where
+  pub leading_taken : length (take_while (λ x. eqb x (get_or t 0 0)) t) ≡ leading t
+  unfolding leading
+  leading_taken = taken_run (get_or t 0 0) t
 
-  module _ (i : ℕ) (w : Passed end t x i) where
-    ended : i ≡ run x (read_from end t) → i ≡ leading (read_from end t)
-    unfolding leading
-    ended n = n ∙ ap (λ (y : ℕ). run y (read_from end t)) w.first
-
-    pub passed_on : i < length t → get_or (read_from end t) i 0 ≡ x → Passed end t x (i + 1)
-    passed_on h e = record { first = w.first; counting = counting_more w.counting (rw length_read h) e }
-
-    pub passed_stop : (get_or (read_from end t) i 0 ≡ x → ⊥) → i ≡ leading (read_from end t)
-    passed_stop n = ended (counting_stop w.counting n)
-
-    pub passed_end : length t ≤ i → i ≡ leading (read_from end t)
-    passed_end h = ended (counting_end w.counting (rw length_read h))
+  pub trailing_taken : 0 < length t
+      → length (take_while (λ x. eqb x (get_or t (length t - 1) 0)) (reverse t)) ≡ trailing t
+  unfolding leading
+  trailing_taken h =
+      let same : length t - 1 - 0 ≡ length t - 1 = omega arith in
+      let last : get_or (reverse t) 0 0 ≡ get_or t (length t - 1) 0 = rw same at (get_or_reverse t 0 h) in
+      rw (← last) (taken_run (get_or (reverse t) 0 0) (reverse t))

@@ -1,5 +1,3 @@
--- `Runs`: the run at each end of a table. `Promises`: what the call promises of them. `Inside`: a table read from an
--- end.
+-- `Runs`: the run at each end of a table. `Promises`: what the call promises of them.
 pub mod Runs
 pub mod Promises
-pub mod Inside

@@ -1,54 +1,28 @@
 // The verdict degenerated: a run of 20 or more equal entries at either end of a curve.
 #![tactic(auto)]
 
-ghost use Rattle.std.specs.Prelude.{◌≡◌, ◌<◌, length, get_or};
-ghost use Rattle.degeneration.specs.Runs.{leading, degenerated};
-ghost use Rattle.degeneration.specs.Inside.{read_from};
+ghost use Rattle.std.specs.Prelude.{◌≡◌, ◌<◌, ◌-◌, ◌==◌, length, take_while, get_or, reverse};
+ghost use Rattle.degeneration.specs.Runs.{degenerated};
 ghost use Rattle.degeneration.specs.Promises.{DegeneratedPromise};
 
-use table::inside::entry;
 use table::{Refusal, not_above};
 
-// An end of a table.
-#[derive(Clone, Copy)]
-enum End {
-    First,
-    Last,
-}
-
-// The verdict.
-#[derive(Clone, Copy)]
-pub enum Degenerated {
-    Yes,
-    No,
-    Refused(Refusal),
-}
-
-// The entry i places from an end.
-fn entry_from(table: &[u16], end: End, i: usize) -> usize
-    requires { i < length table.now }
-    ensures { result ≡ get_or (read_from end table.now) i 0 }
-{
-    match end {
-        End::First => entry(table, i),
-        End::Last => entry(table, table.len() - 1 - i),
-    }
-}
-
-// How many entries in a row, from an end on, equal the one at that end.
-fn run(table: &[u16], end: End) -> usize
+// How many entries in a row, from the first on, equal it.
+fn leading(table: &[u16]) -> usize
     requires { 0 < length table.now }
-    ensures { result ≡ leading (read_from end table.now) }
+    ensures { result ≡ length (take_while (λ x. x == get_or table.now 0 0) table.now) }
 {
-    let first = entry_from(table, end, 0);
-    let mut i = 0;
-    while i < table.len() {
-        if entry_from(table, end, i) != first {
-            return i;
-        }
-        i += 1;
-    }
-    i
+    let first = table[0];
+    table.iter().take_while(|x| **x == first).count()
+}
+
+// How many entries in a row, from the last back, equal it.
+fn trailing(table: &[u16]) -> usize
+    requires { 0 < length table.now }
+    ensures { result ≡ length (take_while (λ x. x == get_or table.now (length table.now - 1) 0) (reverse table.now)) }
+{
+    let last = table[table.len() - 1];
+    table.iter().rev().take_while(|x| **x == last).count()
 }
 
 // Whether the run at either end has at least 20 entries. The Rust's names say percentage; they are counts.
@@ -58,21 +32,21 @@ fn stands_still(table: &[u16]) -> bool
     if table.len() < 2 {
         return false;
     }
-    if 20 <= run(table, End::First) {
+    if 20 <= leading(table) {
         return true;
     }
-    20 <= run(table, End::Last)
+    20 <= trailing(table)
 }
 
 // Degenerated: the run of equal entries at either end has 20 entries or more.
-pub fn is_curve_degenerated(table: &[u16]) -> Degenerated
+pub fn is_curve_degenerated(table: &[u16]) -> Result<bool, Refusal>
     ensures { DegeneratedPromise table.now result }
 {
     if !not_above(table.len()) {
-        return Degenerated::Refused(Refusal::TableLength);
+        return Err(Refusal::TableLength);
     }
     if stands_still(table) {
-        return Degenerated::Yes;
+        return Ok(true);
     }
-    Degenerated::No
+    Ok(false)
 }

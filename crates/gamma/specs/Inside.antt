@@ -1,10 +1,8 @@
 -- The precondition of the gamma lookup's private function. Assumes nothing.
 use Rattle.std.specs.Prelude.{ℕ, ◌≤◌, ◌<◌}
 
--- the gamma lookup's numbers, of a table of n entries, once they are tested
-pub record GammaFits (n N depth x : ℕ) : Type 0 where
-  pub some : 0 < n
-  pub few : n ≤ 65536
+-- the gamma lookup's numbers, once they are tested
+pub record GammaFits (N depth x : ℕ) : Type 0 where
   pub two : 2 ≤ N
   pub most : N ≤ 65536
   pub shallow : 1 ≤ depth

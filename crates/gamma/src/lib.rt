@@ -1,20 +1,14 @@
 // The integer gamma lookup: as the 16-bit lookup, but with N - 1 for its divisor and an answer of `depth` bits.
 #![tactic(auto)]
 
-ghost use Rattle.std.specs.Prelude.{◌≡◌, ◌-◌, ◌*◌, ◌≤◌, ◌^◌, length};
+ghost use Rattle.std.specs.Prelude.{◌≡◌, ◌-◌, ◌*◌, ◌≤◌, ◌^◌};
 ghost use Rattle.gamma.specs.Inside.{GammaFits};
 ghost use Rattle.gamma.specs.Gamma.{gamma_unit, gamma_up};
 ghost use Rattle.gamma.specs.Promises.{GammaPromise};
 
 use lookup::inside::weighted;
-use table::{Refusal, sized, spanned, within};
-
-// The answer of the gamma lookup.
-#[derive(Clone, Copy)]
-pub enum Coded {
-    Value(u16),
-    Refused(Refusal),
-}
+use table::inside::SizedTable;
+use table::{Refusal, spanned, within};
 
 // The largest number that `depth` bits hold.
 fn max_colors(depth: usize) -> usize
@@ -35,11 +29,11 @@ fn gamma_unit(inputs: usize, depth: usize) -> usize
 
 // The gamma lookup, once its numbers are tested. The sum and half a unit can together pass the Rust's 32 bits, so they
 // are worked wide.
-fn gamma(table: &[u16], inputs: usize, depth: usize, input: usize) -> u16
-    requires { GammaFits (length table.now) inputs depth input }
-    ensures { result ≡ gamma_up table.now inputs depth input }
+fn gamma(table: SizedTable, inputs: usize, depth: usize, input: usize) -> u16
+    requires { GammaFits inputs depth input }
+    ensures { result ≡ gamma_up table.entry.entries.now inputs depth input }
 {
-    let value = weighted(table, input * (table.len() - 1), inputs - 1);
+    let value = weighted(table.entries, input * table.last(), inputs - 1);
     let unit = gamma_unit(inputs, depth);
     ((value + unit / 2) / unit) as u16
 }
@@ -51,20 +45,18 @@ pub fn lut_interp_linear_gamma_impl(
     inputs: usize,
     depth: usize,
     input: usize,
-) -> Coded
+) -> Result<u16, Refusal>
     ensures { GammaPromise table.now inputs depth input result }
 {
-    if !sized(table.len()) {
-        return Coded::Refused(Refusal::TableLength);
-    }
+    let table = SizedTable::of(table)?;
     if !spanned(inputs) {
-        return Coded::Refused(Refusal::OutsideRange);
+        return Err(Refusal::OutsideRange);
     }
     if !within(1, 16, depth) {
-        return Coded::Refused(Refusal::OutsideRange);
+        return Err(Refusal::OutsideRange);
     }
     if inputs <= input {
-        return Coded::Refused(Refusal::IndexBeyond);
+        return Err(Refusal::IndexBeyond);
     }
-    Coded::Value(gamma(table, inputs, depth, input))
+    Ok(gamma(table, inputs, depth, input))
 }

@@ -6,42 +6,29 @@ ghost use Rattle.house.specs.House.{IsHouse};
 ghost use Rattle.house.specs.Promises.{EntryPromise, FillPromise};
 
 use entries::curve;
-use table::{Density, Done, Looked, Refusal};
+use table::{Density, Refusal};
 
 mod entries;
 
 // Entry i. The constant table is made anew at each call, so whoever wants many fills a buffer.
-pub fn entry(i: usize) -> Looked
+pub fn entry(i: usize) -> Result<Density, Refusal>
     ensures { EntryPromise i result }
 {
     if 1023 < i {
-        return Looked::Refused(Refusal::IndexBeyond);
+        return Err(Refusal::IndexBeyond);
     }
     let curve = curve();
     let density = curve[i];
-    Looked::At(Density(density))
-}
-
-// The whole curve into a buffer of its length.
-fn copy(out: &mut [u16])
-    requires { length out.old ≡ 1024 }
-    ensures { IsHouse out.new }
-{
-    let curve = curve();
-    let mut i = 0;
-    while i < 1024 {
-        out[i] = curve[i];
-        i += 1;
-    }
+    Ok(Density(density))
 }
 
 // Fills a buffer of 1,024 entries with the curve.
-pub fn fill(out: &mut [u16]) -> Done
+pub fn fill(out: &mut [u16]) -> Result<(), Refusal>
     ensures { FillPromise out.old result out.new }
 {
     if out.len() != 1024 {
-        return Done::Refused(Refusal::OutputLength);
+        return Err(Refusal::OutputLength);
     }
-    copy(out);
-    Done::Yes
+    out.copy_from_slice(&curve());
+    Ok(())
 }

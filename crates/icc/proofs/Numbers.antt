@@ -7,6 +7,7 @@ use native.Mathlib.Numerals.{add-one}
 use native.Mathlib.Omega.{arith}
 use lib.ListN.{length, get_or, take, drop}
 use lib.Seq.{get_or-append-add, drop-cons, drop-drop, take-add}
+use Rattle.std.specs.Int.{w16, w32, to_be_bytes}
 use Rattle.icc.specs.Bytes.{EightBits, be16, be32, bytes16, bytes32}
 
 pub length_bytes16 : (x : ℕ) → length (bytes16 x) ≡ 2
@@ -16,6 +17,19 @@ length_bytes16 x = refl
 pub length_bytes32 : (x : ℕ) → length (bytes32 x) ≡ 4
 unfolding bytes32
 length_bytes32 x = refl
+
+-- std's bytes of a number are the definition's
+pub be_bytes16 : (x : ℕ) → x < 65536 → to_be_bytes w16 x ≡ bytes16 x
+unfolding bytes16
+be_bytes16 x h =
+    let high : x / 256 % 256 ≡ x / 256 = omega arith in
+    rw high refl
+
+pub be_bytes32 : (x : ℕ) → x < 0x1_0000_0000 → to_be_bytes w32 x ≡ bytes32 x
+unfolding bytes32
+be_bytes32 x h =
+    let high : x / 16777216 % 256 ≡ x / 16777216 = omega arith in
+    rw high refl
 
 -- The number whose bytes stand after p is read there.
 module _ (p : List ℕ) (i x : ℕ) (q : List ℕ) (e : length p ≡ i) where

@@ -1,14 +1,13 @@
 -- Bytes stored one after the other: what a buffer then begins with, and runs of stores joined. Assumes nothing.
-use mathlib.Core.Path.{◌≡◌, ◌∙◌, refl, sym, ap}
-use mathlib.Core.List.{List, [], ◌∷◌, ◌++◌}
-use Prim.Native.Nat.{ℕ, suc, ◌+◌, ◌/◌, ◌%◌, ◌≤◌}
-use native.Mathlib.Nat.{add-zero}
+use mathlib.Core.Path.{◌≡◌, ◌∙◌, refl, ap}
+use mathlib.Core.List.{List, ◌++◌, append_assoc}
+use Prim.Native.Nat.{ℕ, ◌+◌, ◌-◌, ◌≤◌}
 use native.Mathlib.Omega.{arith}
-use lib.ListN.{length, take, drop, set, length-append}
-use lib.Seq.{sets, sets-eq, take_at, length-take-le}
-use Rattle.icc.specs.Bytes.{bytes16, bytes32}
+use lib.ListN.{length, take, drop, length-append}
+use lib.Seq.{sets, sets-eq, take_at, length-take-le, drop-drop}
+use borrow.Rule.Slice.PartMut.{put_mid}
+use Rattle.icc.specs.Bytes.{bytes32}
 use Rattle.icc.specs.Opening.{opening}
-use Rattle.icc.proofs.Numbers.{length_bytes16, bytes32_halves}
 
 -- up to m, where the last of them stands
 pub take_sets : (l : List ℕ) (i : ℕ) (vs : List ℕ) (m : ℕ) → i + length vs ≡ m → m ≤ length l
@@ -18,23 +17,14 @@ take_sets l i vs m e h =
     = length-append (take i l) vs ∙ ap (λ (n : ℕ). n + length vs) (length-take-le i l (omega arith)) ∙ e in
     ap (take m) (sets-eq vs l i (omega arith)) ∙ take_at (take i l ++ vs) (drop (i + length vs) l) m long
 
--- two runs, the second where the first ends, are one
-sets_append : (l : List ℕ) (i : ℕ) (vs ws : List ℕ) → sets (sets l i vs) (i + length vs) ws ≡ sets l i (vs ++ ws)
-sets_append l i [] ws = ap (λ (k : ℕ). sets l k ws) (add-zero i)
-sets_append l i (v ∷ vs) ws =
-    let on : i + suc (length vs) ≡ suc i + length vs = omega arith in
-    ap (λ (k : ℕ). sets (sets (set l i v) (suc i) vs) k ws) on ∙ sets_append (set l i v) (suc i) vs ws
+-- bytes that are stored at once are stored one after the other
+pub part_stored : (l : List ℕ) (i k : ℕ) (ys vs : List ℕ) → ys ≡ vs → length vs ≡ k → i + k ≤ length l
+    → put_mid i (i + k - i) l ys ≡ sets l i vs
+part_stored l i k ys vs e n h =
+    let span : i + k - i ≡ k = omega arith in
+    rw (span, e, drop-drop, sets-eq vs l i (omega arith), append_assoc, n) refl
 
--- so two halves are stored as the whole number
-pub halves_stored : (l : List ℕ) (i x : ℕ)
-    → sets (sets l i (bytes16 (x / 65536))) (i + 2) (bytes16 (x % 65536)) ≡ sets l i (bytes32 x)
-halves_stored l i x =
-    ap (λ (k : ℕ). sets (sets l i (bytes16 (x / 65536))) (i + k) (bytes16 (x % 65536)))
-    (sym (length_bytes16 (x / 65536)))
-    ∙ sets_append l i (bytes16 (x / 65536)) (bytes16 (x % 65536))
-    ∙ ap (sets l i) (sym (bytes32_halves x))
-
--- and a signature and the reserved bytes as the opening
+-- a signature and the reserved bytes are stored as the opening
 pub opening_stored : (l : List ℕ) (s : ℕ) → sets (sets l 0 (bytes32 s)) 4 (bytes32 0) ≡ sets l 0 (opening s)
 unfolding bytes32
 opening_stored l s = refl

@@ -18,8 +18,10 @@ use lib.Ieee.Exact.{HasValue, round_exact}
 use lib.Ieee.Order.{round_mono}
 use lib.Ieee.Positive.{num, den, den_pos, positive, positive_of_value, above, above_of_le}
 use lib.Ieee.Scale.{finite, round_same}
+use Rattle.std.specs.Prelude.{Result}
 use Rattle.table.specs.Sizes.{sized}
 use Rattle.table.specs.Refusals.{if_granted}
+use Rattle.table.specs.declared.Refusal.{Refusal}
 use Rattle.ieee.specs.Range.{nought, float_in, upto}
 use Rattle.ieee.proofs.Operations.{mul_of, add_of, sub_of, sign_kept}
 use Rattle.ieee.proofs.Range.{counts, Held, upto_fact, whole_of, whole_held, has_finite}
@@ -27,7 +29,6 @@ use Rattle.ieee.proofs.Value.{round_id}
 use Rattle.ieee.proofs.NoNan.{no_nan, is_nan_lem, round_no_nan, plus_no_nan, times_no_nan, round_value, round_within}
 use Rattle.rounding.specs.Cut.{floor, ceil}
 use Rattle.rounding.proofs.Cut.{ceil_over, ceil_under, ceil_upto, floor_is_ceil}
-use Rattle.interp.specs.declared.Interpolated.{Interpolated}
 use Rattle.interp.specs.Interp.{place, diff, unit, mixed, mixed_at, float_looked_up}
 use Rattle.interp.specs.Promises.{value_of_interpolated, float_verdict, FloatPromise}
 use Rattle.interp.proofs.Place.{place_asks}
@@ -224,7 +225,8 @@ nought_no_nan = refl
 
 -- The answer, granted or refused, is no NaN where the upper entry is finite and the lower one no NaN. Any f32 fits.
 -- [interp::lut_interp_linear_float]
-pub float_no_nan : {t : List Float} {x : Float} {r : Interpolated} → T (fits binary32 (upper t x)) → FloatPromise t x r
+pub float_no_nan : {t : List Float} {x : Float} {r : Result Float Refusal} → T (fits binary32 (upper t x))
+    → FloatPromise t x r
     → T (finite (upper t x)) → (lower t x ≡ nan → ⊥) → value_of_interpolated r ≡ nan → ⊥
 float_no_nan {t} {x} {r} F p N L =
     no_nan (value_of_interpolated r) (ap is_nan p.value ∙ go (sized (length t)) (is_nan (lower t x)) refl refl)

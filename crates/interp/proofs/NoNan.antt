@@ -10,10 +10,12 @@ use lib.ListN.{length, get_or}
 use lib.Dec.{T, eqb, lit≤}
 use lib.IntN.{negsuc}
 use lib.Ieee.{Float, nan, fin, binary32, binary64, sub, mul, div, of_int, is_nan}
+use Rattle.std.specs.Prelude.{Result}
 use Rattle.table.specs.Choice.{pick}
 use Rattle.table.specs.Order.{SixteenBits}
 use Rattle.table.specs.Sizes.{sized, not_above}
 use Rattle.table.specs.Refusals.{if_granted}
+use Rattle.table.specs.declared.Refusal.{Refusal}
 use Rattle.ieee.specs.Range.{nought, one, float_in, float, upto}
 use Rattle.ieee.proofs.Range.{upto_fact}
 use Rattle.ieee.proofs.NoNan.{no_nan, times_no_nan, Bounded, bounded_no_nan, bounded_more, upto_bounded, whole_bounded}
@@ -22,7 +24,6 @@ use Rattle.rounding.specs.Cut.{floor, ceil}
 use Rattle.rounding.specs.Nearest.{narrow}
 use Rattle.rounding.proofs.Cut.{ceil_upto}
 use Rattle.rounding.proofs.NoNan.{narrow_keeps}
-use Rattle.interp.specs.declared.Interpolated.{Interpolated}
 use Rattle.interp.specs.Interp.{place, diff, outside_unit, weighed, weighed_up, linear_looked_up}
 use Rattle.interp.specs.Promises.{value_of_interpolated, linear_verdict, LinearPromise}
 use Rattle.interp.proofs.Place.{place_asks}
@@ -95,7 +96,7 @@ unfolding is_nan
 nought_no_nan = refl
 
 -- The answer, granted or refused, is no NaN. [interp::lut_interp_linear]
-pub linear_no_nan : {t : List ℕ} {x : Float} {r : Interpolated} → SixteenBits t → LinearPromise t x r
+pub linear_no_nan : {t : List ℕ} {x : Float} {r : Result Float Refusal} → SixteenBits t → LinearPromise t x r
     → value_of_interpolated r ≡ nan → ⊥
 linear_no_nan {t} {x} {r} bits p =
     no_nan (value_of_interpolated r) (ap is_nan p.value ∙ go (not_above (length t)) (outside_unit x) refl refl)

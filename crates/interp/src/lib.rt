@@ -8,14 +8,8 @@ ghost use Rattle.interp.specs.Promises.{FloatPromise, LinearPromise};
 
 use rounding::inside::{ceil_f32, ceil_f64, floor_f32, floor_f64};
 use rounding::{min_f32, nearest_f64_to_f32};
+use table::inside::SizedTable;
 use table::{Refusal, not_above, sized};
-
-// The answer of a lookup that gives a float.
-#[derive(Clone, Copy)]
-pub enum Interpolated {
-    Value(f32),
-    Refused(Refusal),
-}
 
 // The Rust's `x.min(1.).max(0.)`.
 fn unit(x: f32) -> f32
@@ -28,7 +22,8 @@ fn unit(x: f32) -> f32
     most
 }
 
-// The float lookup, for whoever has tested the table's length.
+// The float lookup, for whoever has tested the table's length. A `SizedTable` holds 16-bit entries: `Copy` is not
+// derived for a struct of any entries that has a ghost field, and this is the one function that would take it.
 fn interp_float(table: &[f32], x: f32) -> f32
     requires { sized (length table.now) ≡ true }
     ensures { result ≡ float_looked_up table.now x }
@@ -42,13 +37,13 @@ fn interp_float(table: &[f32], x: f32) -> f32
 }
 
 // The float at x from 0 to 1 in a table of floats. The table stands first, where the Rust has it last.
-pub fn lut_interp_linear_float(table: &[f32], x: f32) -> Interpolated
+pub fn lut_interp_linear_float(table: &[f32], x: f32) -> Result<f32, Refusal>
     ensures { FloatPromise table.now x result }
 {
     if !sized(table.len()) {
-        return Interpolated::Refused(Refusal::TableLength);
+        return Err(Refusal::TableLength);
     }
-    Interpolated::Value(interp_float(table, x))
+    Ok(interp_float(table, x))
 }
 
 // Whether x is a NaN, below 0 or above 1.
@@ -64,35 +59,35 @@ fn outside_unit(x: f64) -> bool
     x > 1.0
 }
 
-// The two entries about x weighed in f64, for whoever has tested that x is from 0 to 1 and that there are entries.
-fn interp_wide(table: &[u16], x: f64) -> f64
-    requires table_sized { sized (length table.now) ≡ true }
-    requires within_unit { outside_unit x ≡ false }
-    ensures { result ≡ weighed_up table.now x }
+// The two entries about x weighed in f64, for whoever has tested that x is from 0 to 1.
+fn interp_wide(table: SizedTable, x: f64) -> f64
+    requires { outside_unit x ≡ false }
+    ensures { result ≡ weighed_up table.entry.entries.now x }
 {
-    let value = x * ((table.len() - 1) as f64);
+    let value = x * (table.last() as f64);
     let upper = ceil_f64(value);
     let lower = floor_f64(value);
-    let w0 = table[upper] as f64;
+    let w0 = table.entries[upper] as f64;
     let w1 = 1.0 - ((upper as f64) - value);
-    let w2 = table[lower] as f64;
+    let w2 = table.entries[lower] as f64;
     let w3 = (upper as f64) - value;
     w2 * w3 + w0 * w1
 }
 
 // The float, where 1 stands for 65535, at x from 0 to 1 in a table of 16-bit entries. An empty table passes x through.
-pub fn lut_interp_linear(table: &[u16], x: f64) -> Interpolated
+pub fn lut_interp_linear(table: &[u16], x: f64) -> Result<f32, Refusal>
     ensures { LinearPromise table.now x result }
 {
     if !not_above(table.len()) {
-        return Interpolated::Refused(Refusal::TableLength);
+        return Err(Refusal::TableLength);
     }
     if outside_unit(x) {
-        return Interpolated::Refused(Refusal::OutsideUnit);
+        return Err(Refusal::OutsideUnit);
     }
     if table.len() == 0 {
-        return Interpolated::Value(nearest_f64_to_f32(x));
+        return Ok(nearest_f64_to_f32(x));
     }
+    let table = SizedTable { entries: table };
     let value = nearest_f64_to_f32(interp_wide(table, x));
-    Interpolated::Value(value * (1.0 / 65535.0))
+    Ok(value * (1.0 / 65535.0))
 }

@@ -9,8 +9,7 @@ use native.Mathlib.Omega.{arith}
 use borrow.Author.Tests.{lt-ltb, le-ltb, eq-eqb, ne_eqb}
 use Rattle.table.proofs.Choice.{below?}
 use Rattle.lookup.specs.Lookup.{looked_up}
-use Rattle.inverse.specs.declared.inside.Found.{Found}
-use Rattle.inverse.specs.declared.inside.Found.TheVariants.{Hit, Missed}
+use Rattle.std.specs.Prelude.{Result, Ok, Err}
 use Rattle.inverse.specs.Inside.{Ready}
 use Rattle.inverse.specs.Inverse.{search, searched}
 
@@ -36,19 +35,19 @@ turn t v l r = ⊎_elim on (λ h. over h) (below? l r)
 
 -- what the search finds is worth something: a hit is a position that looks up as the value, and an x that was probed
 -- last is from 1 to 65535
-abbrev pub Sound : List ℕ → ℕ → Found → Type 0
-Sound t v (Hit p) = (looked_up t p ≡ v) × (p ≤ 65534)
-Sound t v (Missed x) = (1 ≤ x) × (x ≤ 65535)
+abbrev pub Sound : List ℕ → ℕ → Result ℕ ℕ → Type 0
+Sound t v (Ok p) = (looked_up t p ≡ v) × (p ≤ 65534)
+Sound t v (Err x) = (1 ≤ x) × (x ≤ 65535)
 
 module _ (t : List ℕ) (v : ℕ) where
   -- one step, for whichever fuel
-  search_over : (fuel l r last : ℕ) → r ≤ l → search fuel t v l r last ≡ Missed last
+  search_over : (fuel l r last : ℕ) → r ≤ l → search fuel t v l r last ≡ Err last
   unfolding search
   search_over zero l r last h = refl
   search_over (suc fuel) l r last h = simp (le-ltb l r h)
 
   search_hit : (fuel l r last : ℕ) → l < r → looked_up t (middle l r - 1) ≡ v
-      → search (suc fuel) t v l r last ≡ Hit (middle l r - 1)
+      → search (suc fuel) t v l r last ≡ Ok (middle l r - 1)
   unfolding search
   search_hit fuel l r last h e = simp (lt-ltb l r h, eq-eqb (looked_up t (middle l r - 1)) v e)
 
@@ -93,7 +92,7 @@ module _ (t : List ℕ) (v : ℕ) where
   ]
 
   -- ---- the turns of the loop, with as many probes as are left
-  abbrev pub from : ℕ → ℕ → ℕ → Found
+  abbrev pub from : ℕ → ℕ → ℕ → Result ℕ ℕ
   from l r last = search (r - l) t v l r last
 
   pub from_start : (l r : ℕ) → from l r 0 ≡ searched t v l r
@@ -101,13 +100,13 @@ module _ (t : List ℕ) (v : ℕ) where
   from_start l r = refl
 
   module _ (l r last : ℕ) where
-    pub from_over : r ≤ l → from l r last ≡ Missed last
+    pub from_over : r ≤ l → from l r last ≡ Err last
     from_over h = search_over (r - l) l r last h
 
     one_more : from l r last ≡ search (suc (r - l)) t v l r last
     one_more = fuel_enough (r - l) (suc (r - l)) l r last (le_refl (r - l)) (omega arith)
 
-    pub from_hit : l < r → looked_up t (middle l r - 1) ≡ v → from l r last ≡ Hit (middle l r - 1)
+    pub from_hit : l < r → looked_up t (middle l r - 1) ≡ v → from l r last ≡ Ok (middle l r - 1)
     from_hit h e = one_more ∙ search_hit (r - l) l r last h e
 
     pub from_left : l < r → v < looked_up t (middle l r - 1) → from l r last ≡ from l (middle l r - 1) (middle l r)
@@ -170,11 +169,11 @@ module _ (t : List ℕ) (v : ℕ) where
       subst (Sound t v) (from_start l r) (from_sound (r - l) l r 0 (le_refl (r - l)) s (λ k. absurd (omega arith)))
 
   -- a hit needs a probe
-  pub hit_apart : (l r p : ℕ) → searched t v l r ≡ Hit p → l < r
+  pub hit_apart : (l r p : ℕ) → searched t v l r ≡ Ok p → l < r
   hit_apart l r p e = ⊎_elim (λ h. h) over (below? l r)
     where
       over : r ≤ l → l < r
       over h =
-          let o : Missed 0 ≡ Hit p = sym (from_over l r 0 h) ∙ from_start l r ∙ e in
+          let o : ◌≡◌ {A = Result ℕ ℕ} (Err 0) (Ok p) = sym (from_over l r 0 h) ∙ from_start l r ∙ e in
           let z : ◌≡◌ {A = ℕ} 0 1 = cc in
           absurd (omega arith)

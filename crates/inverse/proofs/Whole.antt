@@ -15,8 +15,7 @@ use Rattle.table.proofs.Sizes.{within_high}
 use Rattle.lookup.specs.Lookup.{lower, upper, steps, entries_of, looked_up}
 use Rattle.lookup.proofs.Steps.{lower_lt, upper_lt}
 use Rattle.lookup.proofs.LookupLaws.{lookup_at_most}
-use Rattle.inverse.specs.declared.inside.Found.{Found}
-use Rattle.inverse.specs.declared.inside.Found.TheVariants.{Hit, Missed}
+use Rattle.std.specs.Prelude.{Result, Ok, Err}
 use Rattle.inverse.specs.Inside.{Ready}
 use Rattle.inverse_tail.specs.Tail.{tail}
 use Rattle.inverse_start.specs.Start.{leading_zeros, trailing_tops, zero_at_once, first_left, first_right}
@@ -108,13 +107,13 @@ module _ {t : List ℕ} {z w l r : ℕ} (b : Begun t z w l r) (h : sized (length
     settles c = simp (not_at_once, same_left, same_right, lt-leb r l c)
 
     -- at a hit, its position; with none, what the f64 steps make of the x that was probed last, which is from 1 on
-    pub hit_answer : (p : ℕ) → l < r → searched t v l r ≡ Hit p → p ≡ inverted t v
+    pub hit_answer : (p : ℕ) → l < r → searched t v l r ≡ Ok p → p ≡ inverted t v
     hit_answer p c s = ap (settled t v) (sym s) ∙ settles c
 
-    pub missed_answer : (x : ℕ) → l < r → searched t v l r ≡ Missed x → tail t x v ≡ inverted t v
+    pub missed_answer : (x : ℕ) → l < r → searched t v l r ≡ Err x → tail t x v ≡ inverted t v
     missed_answer x c s = ap (settled t v) (sym s) ∙ settles c
 
-    pub missed_low : (x : ℕ) → l < r → searched t v l r ≡ Missed x → 0 < x
+    pub missed_low : (x : ℕ) → l < r → searched t v l r ≡ Err x → 0 < x
     missed_low x c s = (subst (Sound t v) s (searched_sound t v l r begun_ready c)).0
 
 -- ---- what holds of every table of 1 to 65,536 entries
@@ -127,10 +126,10 @@ module _ (t : List ℕ) (h : sized (length t) ≡ true) (v : ℕ) where
 
   -- Where the search leaves at a hit, the lookup at the defined answer is the value. [inverse::lut_inverse_interp16]
   pub hit_looks_up : (p : ℕ) → zero_at_once v (leading_zeros t) (trailing_tops t) ≡ false
-      → searched t v (left_of t) (right_of t) ≡ Hit p → looked_up t (inverted t v) ≡ v
+      → searched t v (left_of t) (right_of t) ≡ Ok p → looked_up t (inverted t v) ≡ v
   hit_looks_up p e s =
       let c : left_of t < right_of t = hit_apart t v (left_of t) (right_of t) p s in
-      let found : Sound t v (Hit p) = subst (Sound t v) s (sound c) in
+      let found : Sound t v (Ok p) = subst (Sound t v) s (sound c) in
       ap (looked_up t) (sym (hit_answer (begins t) h v refl e p c s)) ∙ found.0
 
   -- 16 bits hold the answer. [inverse::lut_inverse_interp16]
@@ -138,9 +137,9 @@ module _ (t : List ℕ) (h : sized (length t) ≡ true) (v : ℕ) where
   unfolding inverted
   inverted_fits = go (zero_at_once v (leading_zeros t) (trailing_tops t)) (leb (right_of t) (left_of t)) refl
     where
-      settled_fits : (f : Found) → Sound t v f → settled t v f ≤ 65535
-      settled_fits (Hit p) s = le_trans s.1 (lit≤ tt)
-      settled_fits (Missed x) s = tail_fits t x v s.1
+      settled_fits : (f : Result ℕ ℕ) → Sound t v f → settled t v f ≤ 65535
+      settled_fits (Ok p) s = le_trans s.1 (lit≤ tt)
+      settled_fits (Err x) s = tail_fits t x v s.1
 
       go : (a b : Bool) → leb (right_of t) (left_of t) ≡ b
           → pick a 0 (pick b 0 (settled t v (searched t v (left_of t) (right_of t)))) ≤ 65535

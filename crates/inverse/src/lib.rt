@@ -4,16 +4,17 @@
 
 ghost use Rattle.inverse.specs.Promises.{InversePromise};
 
-use table::{Density, Drive, Refusal, Sought, sized};
+use inside::Counted;
+use table::inside::SizedTable;
+use table::{Density, Drive, Refusal};
 
 pub mod inside;
 
 // The position for a value, by the Rust's own steps.
-pub fn lut_inverse_interp16(table: &[u16], value: Density) -> Sought
+pub fn lut_inverse_interp16(table: &[u16], value: Density) -> Result<Drive, Refusal>
     ensures { InversePromise table.now value result }
 {
-    if !sized(table.len()) {
-        return Sought::Refused(Refusal::TableLength);
-    }
-    Sought::At(Drive(inside::inverse(table, inside::ends_of(table), value.0)))
+    let table = SizedTable::of(table)?;
+    let counted = Counted::of(table);
+    Ok(Drive(counted.inverse(value.0)))
 }

@@ -1,3 +1,3 @@
--- `Runs`: the runs at either end, and the loops that count them. `Start`: where the search begins.
+-- `Runs`: the runs at either end. `Start`: where the search begins.
 pub mod Runs
 pub mod Start

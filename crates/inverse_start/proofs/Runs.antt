@@ -1,27 +1,13 @@
--- The run of 0 at a table's start and the run of 65535 at its end: the loop that counts the second, and that the two do
--- not meet. Assumes nothing.
+-- The run of 0 at a table's start and the run of 65535 at its end, and that the two do not meet. Assumes nothing.
 use mathlib.Core.Path.{◌≡◌, ◌∙◌, sym}
 use mathlib.Core.Logic.{⊎_elim}
 use mathlib.Core.List.{List, reverse}
 use Prim.Native.Nat.{ℕ, ◌+◌, ◌-◌, ◌≤◌, ◌<◌}
 use native.Mathlib.Omega.{arith}
 use lib.ListN.{length, get_or, length-reverse}
-use Rattle.table.specs.Runs.{run}
 use Rattle.table.proofs.Choice.{below?}
-use Rattle.table.proofs.Runs.{Counting, counting_more, counting_stop, counting_end, run_within, run_equal}
-use Rattle.table.proofs.Runs.{get_or_reverse}
+use Rattle.table.proofs.Runs.{run_within, run_equal, get_or_reverse}
 use Rattle.inverse_start.specs.Start.{leading_zeros, trailing_tops}
-
--- a run counted from the last entry back
-module _ {y : ℕ} (t : List ℕ) {i : ℕ} (s : Counting y (reverse t) i) where
-  pub back_more : i < length t → get_or t (length t - 1 - i) 0 ≡ y → Counting y (reverse t) (i + 1)
-  back_more h e = counting_more s (rw length-reverse h) (get_or_reverse t i h ∙ e)
-
-  pub back_stop : i < length t → (get_or t (length t - 1 - i) 0 ≡ y → ⊥) → i ≡ run y (reverse t)
-  back_stop h other = counting_stop s (λ e. other (sym (get_or_reverse t i h) ∙ e))
-
-  pub back_end : length t ≤ i → i ≡ run y (reverse t)
-  back_end h = counting_end s (rw length-reverse h)
 
 module _ (t : List ℕ) where
   pub zeros_le : leading_zeros t ≤ length t

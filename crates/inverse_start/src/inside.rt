@@ -7,28 +7,14 @@ ghost use Rattle.inverse_start.specs.Start.{leading_zeros, trailing_tops, zero_a
 pub fn leading_zeros(table: &[u16]) -> usize
     ensures { result ≡ leading_zeros table.now }
 {
-    let mut z = 0;
-    while z < table.len() {
-        if table[z] != 0 {
-            return z;
-        }
-        z += 1;
-    }
-    z
+    table.iter().take_while(|x| **x == 0).count()
 }
 
 // Document 01's w.
 pub fn trailing_tops(table: &[u16]) -> usize
     ensures { result ≡ trailing_tops table.now }
 {
-    let mut w = 0;
-    while w < table.len() {
-        if table[table.len() - 1 - w] != 65535 {
-            return w;
-        }
-        w += 1;
-    }
-    w
+    table.iter().rev().take_while(|x| **x == 65535).count()
 }
 
 // Whether value 0 is answered before any search.

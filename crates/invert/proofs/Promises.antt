@@ -4,14 +4,16 @@ use mathlib.Core.Path.{◌≡◌, ◌∙◌, sym}
 use mathlib.Core.List.{List}
 use Prim.Native.Nat.{ℕ, ◌<◌}
 use lib.ListN.{get_or}
-use Rattle.table.specs.declared.Done.{Done}
+use Rattle.std.specs.Prelude.{Result}
+use Rattle.table.specs.declared.Refusal.{Refusal}
 use Rattle.table.proofs.Answers.{same_done}
 use Rattle.table.proofs.Fill.{get_or_tabulated}
 use Rattle.inverse.specs.Inverse.{inverted}
 use Rattle.invert.specs.Invert.{asked, inverted_at, inverted_of}
 use Rattle.invert.specs.Promises.{InvertPromise}
 
-pub invert_one : {t out out' out'' : List ℕ} {r s : Done} → InvertPromise t out r out' → InvertPromise t out s out''
+pub invert_one : {t out out' out'' : List ℕ} {r s : Result (Unit {0}) Refusal} → InvertPromise t out r out'
+    → InvertPromise t out s out''
     → (r ≡ s) × (out' ≡ out'')
 invert_one {r = r} {s = s} a b = (same_done r s (a.number ∙ sym b.number), a.after ∙ sym b.after)
 

@@ -33,7 +33,7 @@ module _ (m i : ℕ) (two : 2 ≤ m) (most : m ≤ 65536) (inside : i < m) where
       (omega arith))
 
   -- the question as the program works it out
-  abbrev question : Float
+  abbrev pub question : Float
   question =
       add binary64 (mul binary64 (float i) (div binary64 (of_bits binary64 0x40ef_ffe0_0000_0000) (float (m - 1))))
       (of_bits binary64 0x3fe0_0000_0000_0000)

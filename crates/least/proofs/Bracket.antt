@@ -9,8 +9,8 @@ use native.Mathlib.Omega.{arith}
 use lib.ListN.{get_or}
 use Rattle.table.specs.Order.{last_entry}
 use Rattle.table.proofs.Choice.{below?}
-use Rattle.least.specs.Inside.{Searchable, FirstReaching, Cell}
-use Rattle.least.proofs.Tables.{searchable_last, searchable_rises}
+use Rattle.least.specs.Inside.{FirstReaching, Cell}
+use Rattle.least.proofs.Tables.{Searchable, searchable_last, searchable_rises}
 
 pub record Bracket (t : List ℕ) (top v low high : ℕ) : Type 0 where
   pub ordered : low ≤ high
@@ -28,7 +28,7 @@ module _ {t : List ℕ} {top v : ℕ} (s : Searchable t top) where
   }
 
   module _ {low high : ℕ} (b : Bracket t top v low high) where
-    pub bracket_up : (m : ℕ) → m < high → get_or t m 0 < v → Bracket t top v (m + 1) high
+    bracket_up : (m : ℕ) → m < high → get_or t m 0 < v → Bracket t top v (m + 1) high
     bracket_up m l c = record {
       ordered = omega arith;
       inside = b.inside;
@@ -37,7 +37,7 @@ module _ {t : List ℕ} {top v : ℕ} (s : Searchable t top) where
     }
 
     -- down to an index that is not below one where v is reached
-    pub bracket_down : (m h : ℕ) → low ≤ h → m ≤ h → h ≤ top → v ≤ get_or t m 0 → Bracket t top v low h
+    bracket_down : (m h : ℕ) → low ≤ h → m ≤ h → h ≤ top → v ≤ get_or t m 0 → Bracket t top v low h
     bracket_down m h a l i c = record {
       ordered = a;
       inside = i;
@@ -46,7 +46,7 @@ module _ {t : List ℕ} {top v : ℕ} (s : Searchable t top) where
     }
 
     -- the two have met
-    pub bracket_end : high ≤ low → v ≤ last_entry t → FirstReaching t top v low
+    pub bracket_end : high ≤ low → v ≤ last_entry t → FirstReaching t v low
     bracket_end h r =
         let met : high ≡ low = le_antisymm h b.ordered in
         record {
@@ -78,14 +78,13 @@ module _ {t : List ℕ} {top v : ℕ} (s : Searchable t top) where
             (bracket_down b last (low + left / 2) (omega arith) (omega arith) (omega (arith, b.inside)) l)
 
 -- the entry found begins the table, or there is one before it that is below v
-pub found_first : {t : List ℕ} {top v i : ℕ} → FirstReaching t top v i → i ≡ 0 → v ≤ get_or t 0 0
+pub found_first : {t : List ℕ} {v i : ℕ} → FirstReaching t v i → i ≡ 0 → v ≤ get_or t 0 0
 found_first {t} {v = v} f e = subst (λ (j : ℕ). v ≤ get_or t j 0) e f.here
 
-pub found_cell : {t : List ℕ} {top v i : ℕ} → Searchable t top → FirstReaching t top v i → 0 < i → Cell t top v (i - 1)
-found_cell {t} {v = v} {i = i} s f p =
+pub found_cell : {t : List ℕ} {v i : ℕ} → FirstReaching t v i → 0 < i → Cell t v (i - 1)
+found_cell {t} {v} {i} f p =
     let e : i ≡ i - 1 + 1 = omega arith in
     record {
-      table = s;
       inside = omega arith;
       below = f.before (i - 1) (omega arith);
       reached = subst (λ (j : ℕ). v ≤ get_or t j 0) e f.here;

@@ -16,7 +16,7 @@ use Rattle.lookup.proofs.LookupLaws.{lookup_reaches, passed_le_lookup, lookup_le
 use Rattle.least.specs.Least.{least_of}
 use Rattle.least.specs.Inside.{Cell}
 use Rattle.least.proofs.LeastLaws.{least_only}
-use Rattle.least.proofs.Tables.{table_order, table_rises}
+use Rattle.least.proofs.Tables.{Searchable, table_order, table_rises}
 
 -- entries a and b, k of 65535 steps from a to b: weighed so, they reach v exactly if k times their distance covers the
 -- way from a to v
@@ -38,7 +38,7 @@ pub steps_read : (t : List ℕ) (v c : ℕ) {before after w s : ℕ} → before 
     → s ≡ div_ceil ((w - before) * 65535) (after - before) → s ≡ cell_steps t v c
 steps_read t v c b w a s = rw (s, b, w, a) refl
 
-module _ {t : List ℕ} {top v c : ℕ} (cell : Cell t top v c) where
+module _ {t : List ℕ} {top v c : ℕ} (s : Searchable t top) (cell : Cell t v c) where
   -- the lookup at q is at least v exactly if q is that many steps past entry c
   Reaches : ℕ → Type 0
   Reaches q = (v ≤ looked_up t q) ↔ (c * 65535 + cell_steps t v c ≤ q * (length t - 1))
@@ -57,8 +57,8 @@ module _ {t : List ℕ} {top v c : ℕ} (cell : Cell t top v c) where
   before : (q : ℕ) → q ≤ 65535 → q * (length t - 1) < c * 65535 → Reaches q
   unfolding Reaches
   before q h l =
-      let s = cell.table.passed in
-      let m = lookup_le_coming t s.size (table_order s) q c h (omega arith) (le_of_lt l) in
+      let p = s.passed in
+      let m = lookup_le_coming t p.size (table_order p) q c h (omega arith) (le_of_lt l) in
       ((λ r. absurd (omega arith)), (λ r. absurd (omega arith)))
 
   -- in it the steps decide,
@@ -76,8 +76,8 @@ module _ {t : List ℕ} {top v c : ℕ} (cell : Cell t top v c) where
   past : (q : ℕ) → q ≤ 65535 → (c + 1) * 65535 ≤ q * (length t - 1) → Reaches q
   unfolding Reaches
   past q h l =
-      let s = cell.table.passed in
-      let m = passed_le_lookup t s.size (table_order s) q (c + 1) h l in
+      let p = s.passed in
+      let m = passed_le_lookup t p.size (table_order p) q (c + 1) h l in
       ((λ r. omega (arith, steps_small)), (λ r. le_trans cell.reached m))
 
   reaches : (q : ℕ) → q ≤ 65535 → Reaches q
@@ -98,5 +98,5 @@ module _ {t : List ℕ} {top v c : ℕ} (cell : Cell t top v c) where
   -- so many positions make that many steps
   pub cell_least : least_of (looked_up t) v ≡ div_ceil (c * 65535 + cell_steps t v c) top
   cell_least =
-      least_only (looked_up t) v (table_rises cell.table.passed) (div_ceil (c * 65535 + cell_steps t v c) top)
+      least_only (looked_up t) v (table_rises s.passed) (div_ceil (c * 65535 + cell_steps t v c) top)
       cell_inside exact

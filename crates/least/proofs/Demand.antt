@@ -7,10 +7,10 @@ use mathlib.Core.List.{List}
 use Prim.Native.Nat.{ℕ, ◌≤◌, ◌<◌}
 use native.Mathlib.Omega.{arith}
 use lib.ListN.{length}
+use Rattle.std.specs.Prelude.{Ok, Err}
 use Rattle.table.specs.Sizes.{sized}
 use Rattle.table.specs.Order.{Nondecreasing, Passed, last_entry}
 use Rattle.table.specs.Turns.{Throughout}
-use Rattle.table.specs.declared.Sought.{Sought}
 use Rattle.table.specs.declared.Refusal.{Refusal}
 use Rattle.table.proofs.Choice.{below?}
 use Rattle.table.proofs.Order.{fact_test}
@@ -30,12 +30,12 @@ module _ (t : List ℕ) (size : sized (length t) ≡ true) (order : Nondecreasin
   passed : Passed t
   passed = record { size = size; order = fact_test t order }
 
-  only_above : (m : LeastIn t) (why : Refusal) → m.answer ≡ Sought.Refused why → last_entry t < m.value.0
+  only_above : (m : LeastIn t) (why : Refusal) → m.answer ≡ Err why → last_entry t < m.value.0
   only_above m why e = ⊎_elim (λ l. l) reached (below? (last_entry t) m.value.0)
     where
       reached : m.value.0 ≤ last_entry t → last_entry t < m.value.0
       reached h =
-          let f : m.answer ≡ Sought.At (record { 0 = least_of (looked_up t) m.value.0 }) =
+          let f : m.answer ≡ Ok (record { 0 = least_of (looked_up t) m.value.0 }) =
           least_found passed h m.kept in
           let z : ◌≡◌ {A = ℕ} 0 1 = cc in
           absurd (omega arith)

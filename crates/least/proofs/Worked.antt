@@ -7,9 +7,9 @@ use Prim.Native.Nat.{ℕ, suc, ◌+◌, ◌-◌, ◌*◌, ◌≤◌, ◌<◌, ze
 use native.Mathlib.Omega.{arith}
 use lib.ListN.{length, get_or}
 use lib.Dec.{lit<, lit≤}
+use Rattle.std.specs.Prelude.{Result, Ok, Err}
 use Rattle.table.specs.Sizes.{within}
 use Rattle.table.specs.declared.Density.{Density}
-use Rattle.table.specs.declared.Sought.{Sought}
 use Rattle.table.specs.declared.Refusal.TheVariants.{TableLength, NotNondecreasing, AboveLast}
 use Rattle.table.proofs.Choice.{below?}
 use Rattle.lookup.specs.Lookup.{looked_up}
@@ -20,6 +20,8 @@ use Rattle.nudge.proofs.Sitting.{turns_of, accept_begins, every_list_goes}
 use Rattle.least.specs.Least.{least_of}
 use Rattle.table.specs.Order.{Passed}
 use Rattle.table.specs.Turns.{Throughout}
+use Rattle.table.specs.declared.Drive.{Drive}
+use Rattle.table.specs.declared.Refusal.{Refusal}
 use Rattle.least.specs.Promises.{LeastPromise}
 use Rattle.least.proofs.LeastLaws.{least_at}
 use Rattle.least.proofs.Demand.{CurveObeys, sitting_obeys}
@@ -28,8 +30,8 @@ use Rattle.least.proofs.Tables.{table_rises}
 density : ℕ → Density
 density n = record { 0 = n }
 
-at : ℕ → Sought
-at p = Sought.At (record { 0 = p })
+at : ℕ → Result Drive Refusal
+at p = Ok (record { 0 = p })
 
 -- c entries passed and k steps towards the next: whether the lookup there is at least v, by the two entries
 module _ (t : List ℕ) (p v c k : ℕ) (e : p * (length t - 1) ≡ c * 65535 + k) (h : k ≤ 65535) where
@@ -100,20 +102,20 @@ least_of_last : LeastPromise short (density 20) (at 65535)
 unfolding short within density at
 least_of_last = record { number = refl; value = sym short_20 }
 
-least_above_last : LeastPromise short (density 21) (Sought.Refused AboveLast)
+least_above_last : LeastPromise short (density 21) (Err AboveLast)
 unfolding short within density
 least_above_last = record { number = refl; value = refl }
 
-least_in_empty : LeastPromise [] (density 0) (Sought.Refused TableLength)
+least_in_empty : LeastPromise [] (density 0) (Err TableLength)
 unfolding within density
 least_in_empty = record { number = refl; value = refl }
 
-least_of_65537 : (t : List ℕ) → length t ≡ 65537 → (v : Density) → LeastPromise t v (Sought.Refused TableLength)
+least_of_65537 : (t : List ℕ) → length t ≡ 65537 → (v : Density) → LeastPromise t v (Err TableLength)
 unfolding within
 least_of_65537 t e v = record { number = simp e; value = simp e }
 
 -- a falling table comes before a value above its last entry
-least_falling : LeastPromise (20 ∷ 10 ∷ []) (density 11) (Sought.Refused NotNondecreasing)
+least_falling : LeastPromise (20 ∷ 10 ∷ []) (density 11) (Err NotNondecreasing)
 unfolding within density
 least_falling = record { number = refl; value = refl }
 

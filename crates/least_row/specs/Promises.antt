@@ -1,13 +1,13 @@
 -- What the call of this crate promises: when it is refused and by which number, and what the lent buffer holds after
 -- it. Assumes nothing.
-use Rattle.std.specs.Prelude.{ℕ, ◌≡◌, List, length, get_or, eqb}
+use Rattle.std.specs.Prelude.{ℕ, ◌≡◌, List, length, get_or, eqb, Result}
 use Rattle.table.specs.Sizes.{sized}
 use Rattle.table.specs.Order.{nondecreasing}
 use Rattle.table.specs.Fill.{tabulated}
 use Rattle.table.specs.Refusals.{Verdict, granted, rung, number_in, if_granted}
-use Rattle.table.specs.Answers.{number_of_done}
-use Rattle.table.specs.declared.Done.{Done}
+use Rattle.table.specs.Answers.{number_of_answer}
 use Rattle.table.specs.declared.Refusal.TheVariants.{TableLength, NotNondecreasing, OutputLength}
+use Rattle.table.specs.declared.Refusal.{Refusal}
 use Rattle.lookup.specs.Lookup.{looked_up}
 use Rattle.least.specs.Least.{least_of}
 use Rattle.least.specs.Promises.{least_verdict}
@@ -31,6 +31,6 @@ least_row_verdict t values out =
     (rung (nondecreasing t) NotNondecreasing
     granted))
 
-pub record LeastRowPromise (t values out : List ℕ) (r : Done) (out' : List ℕ) : Type 0 where
-  pub number : number_of_done r ≡ number_in (least_row_verdict t values out)
+pub record LeastRowPromise (t values out : List ℕ) (r : Result (Unit {0}) Refusal) (out' : List ℕ) : Type 0 where
+  pub number : number_of_answer r ≡ number_in (least_row_verdict t values out)
   pub after : out' ≡ if_granted (least_row_verdict t values out) (least_row_of t values) out

@@ -2,75 +2,67 @@
 #![tactic(auto)]
 
 ghost use Rattle.std.specs.Prelude.{◌≤◌, ◌≡◌, length};
-ghost use Rattle.table.specs.Order.{Passed, last_entry};
-ghost use Rattle.least.specs.Inside.{Searchable, FirstReaching};
+ghost use Rattle.table.specs.Order.{last_entry};
+ghost use Rattle.least.specs.Inside.{FirstReaching};
 ghost use Rattle.least_row.specs.Promises.{row_position, least_row_of, LeastRowPromise};
 
 use four::four_reaching;
-use least::inside::{first_reaching, least_at};
-use table::{Done, Refusal, in_order, sized};
+use least::inside::PassedTable;
+use table::{Refusal, sized};
 
 mod four;
 
 // What a row holds for v: its least input, or one past the last position where there is none. Entry `next` is the first
 // that is not below v, where there is one.
-fn row_position_at(table: &[u16], top: usize, v: u16, next: usize) -> u32
-    requires searchable { Searchable table.now top }
-    requires first_reaching { v ≤ last_entry table.now → FirstReaching table.now top v next }
-    ensures { result ≡ row_position table.now v }
+fn row_position_at(table: PassedTable, v: u16, next: usize) -> u32
+    requires { v ≤ last_entry table.table.now → FirstReaching table.table.now v next }
+    ensures { result ≡ row_position table.entry.table.now v }
 {
-    if table[top] < v {
+    if table.last() < v {
         return 65536;
     }
-    least_at(table, top, v, next) as u32
+    table.least_at(v, next) as u32
 }
 
 // The same, with that entry searched for.
-fn row_position(table: &[u16], top: usize, v: u16) -> u32
-    requires { Searchable table.now top }
-    ensures { result ≡ row_position table.now v }
+fn row_position(table: PassedTable, v: u16) -> u32
+    ensures { result ≡ row_position table.entry.table.now v }
 {
-    row_position_at(table, top, v, first_reaching(table, top, v))
+    row_position_at(table, v, table.first_reaching(v))
 }
 
-// The same for each value, four at a time while there are four.
-fn fill_least_row(table: &[u16], values: &[u16], out: &mut [u32])
-    requires passed { Passed table.now }
-    requires out_len { length out.old ≡ length values.now }
-    ensures { out.new ≡ least_row_of table.now values.now }
+// The same for each value, four at a time while there are four. By an index: the edits row_fifth_place_left_out and
+// row_rest_not_written are slips of where the rest begins.
+fn fill_least_row(table: PassedTable, values: &[u16], out: &mut [u32])
+    requires { length out.old ≡ length values.now }
+    ensures { out.new ≡ least_row_of table.entry.table.now values.now }
 {
-    let top = table.len() - 1;
-    let mut i = 0;
-    while values.len() - i >= 4 {
-        let next = four_reaching(table, top, values, i);
-        let mut j = 0;
-        while j < 4 {
-            out[i + j] = row_position_at(table, top, values[i + j], next[j]);
-            j += 1;
+    let fours = values.len() / 4;
+    for k in 0..fours {
+        let i = 4 * k;
+        let next = four_reaching(table, values, i);
+        for j in 0..4 {
+            out[i + j] = row_position_at(table, values[i + j], next[j]);
         }
-        i += 4;
     }
-    while i < values.len() {
-        out[i] = row_position(table, top, values[i]);
-        i += 1;
+    for i in 4 * fours..values.len() {
+        out[i] = row_position(table, values[i]);
     }
 }
 
 // The least inputs of a row of values, the table tested once. A value above the last entry, which a single call
 // refuses, has 65,536 in its place.
-pub fn least_input_row(table: &[u16], values: &[u16], out: &mut [u32]) -> Done
+pub fn least_input_row(table: &[u16], values: &[u16], out: &mut [u32]) -> Result<(), Refusal>
     ensures { LeastRowPromise table.now values.now out.old
         result out.new }
 {
+    // Refusal 6 comes between the two tests of `PassedTable::of` (`least_row_verdict`), so the first is made before.
     if !sized(table.len()) {
-        return Done::Refused(Refusal::TableLength);
+        return Err(Refusal::TableLength);
     }
     if out.len() != values.len() {
-        return Done::Refused(Refusal::OutputLength);
+        return Err(Refusal::OutputLength);
     }
-    if !in_order(table) {
-        return Done::Refused(Refusal::NotNondecreasing);
-    }
-    fill_least_row(table, values, out);
-    Done::Yes
+    fill_least_row(PassedTable::of(table)?, values, out);
+    Ok(())
 }

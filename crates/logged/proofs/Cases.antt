@@ -6,9 +6,9 @@ use Prim.Native.Nat.{ℕ, ◌<◌}
 use native.Mathlib.Omega.{arith}
 use borrow.Author.Tests.{lt-ltb, le-ltb, ltb-true, leb-true}
 use lib.Dec.{leb, ltb}
+use Rattle.std.specs.Prelude.{Result, Ok, Err}
 use Rattle.table.specs.Sizes.{sized}
 use Rattle.table.specs.Refusals.{granted, refused}
-use Rattle.table.specs.declared.Done.{Done}
 use Rattle.table.specs.declared.Refusal.{Refusal}
 use Rattle.table.proofs.Sizes.{within_high}
 use Rattle.table.proofs.Answers.{done_granted, done_refused}
@@ -19,11 +19,11 @@ use Rattle.logged.specs.State.{Logged, logged_on}
 use Rattle.logged.specs.Promises.{Call, start, accept, call_verdict, leaves, count_after, LogPromise}
 
 pub refused_so : {call : Call} {s : Logged} {why : Refusal} → call_verdict call s ≡ refused why →
-    LogPromise call s (Done.Refused why) s
+    LogPromise call s (Err why) s
 refused_so e = record { number = simp e; after = simp e }
 
 pub granted_so : {call : Call} {s s' : Logged} → call_verdict call s ≡ granted → s' ≡ leaves call s →
-    LogPromise call s Done.Yes s'
+    LogPromise call s (Ok tt) s'
 granted_so e q = record { number = simp e; after = simp e q }
 
 pub same_parts : {t u l m : List ℕ} {k n : ℕ} → t ≡ u → l ≡ m → k ≡ n → logged_on t l k ≡ logged_on u m n
@@ -50,17 +50,17 @@ index_narrow n i h l = omega (arith, within_high 1 65536 n h, ltb-true i n l)
 
 -- Start and accept do to the table what they do without a log, and a granted one empties the log.
 module _ {t l : List ℕ} {k : ℕ} where
-  pub start_so : {t' : List ℕ} (r : Done) → StartPromise (sitting_on t) r (sitting_on t') →
+  pub start_so : {t' : List ℕ} (r : Result (Unit {0}) Refusal) → StartPromise (sitting_on t) r (sitting_on t') →
       LogPromise start (logged_on t l k) r (logged_on t' l (count_after r k))
-  start_so Done.Yes a =
+  start_so (Ok tt) a =
       let g = start_granted a in
       granted_so (simp g.0) (same_parts g.1 refl refl)
-  start_so (Done.Refused why) a =
-      subst (λ (s : Sitting). LogPromise start (logged_on t l k) (Done.Refused why) (logged_on s.table l k))
+  start_so (Err why) a =
+      subst (λ (s : Sitting). LogPromise start (logged_on t l k) (Err why) (logged_on s.table l k))
       (sym (start_refused a))
       (refused_so (done_refused (start_verdict (sitting_on t)) why a.number))
 
-  pub accept_so : (r : Done) → AcceptPromise (sitting_on t) r (sitting_on t) →
+  pub accept_so : (r : Result (Unit {0}) Refusal) → AcceptPromise (sitting_on t) r (sitting_on t) →
       LogPromise accept (logged_on t l k) r (logged_on t l (count_after r k))
-  accept_so Done.Yes a = granted_so (done_granted (accept_verdict (sitting_on t)) a.number) refl
-  accept_so (Done.Refused why) a = refused_so (done_refused (accept_verdict (sitting_on t)) why a.number)
+  accept_so (Ok tt) a = granted_so (done_granted (accept_verdict (sitting_on t)) a.number) refl
+  accept_so (Err why) a = refused_so (done_refused (accept_verdict (sitting_on t)) why a.number)

@@ -10,8 +10,9 @@ use native.Mathlib.Omega.{arith}
 use borrow.Author.Tests.{le-ltb}
 use lib.ListN.{length, get_or, set, take}
 use lib.Seq.{take-suc-set, take-take, get_or-take}
+use Rattle.std.specs.Prelude.{Result}
 use Rattle.table.specs.Refusals.{Verdict, granted, refused, number_in, if_granted}
-use Rattle.table.specs.declared.Done.{Done}
+use Rattle.table.specs.declared.Refusal.{Refusal}
 use Rattle.table.proofs.Answers.{same_done}
 use Rattle.nudge_log.specs.Records.{places, word}
 use Rattle.logged.specs.State.{Logged, logged_on, standing}
@@ -77,7 +78,7 @@ module _ (t l m : List ℕ) (k : ℕ) (e : take k l ≡ take k m) where
   left_alike a b call granted g = leaves_alike a b call g
   left_alike a b call (refused why) g = record { table = refl; count = refl; stand = e }
 
-  both_alike : length l ≡ places → length m ≡ places → (call : Call) {r p : Done} {s q : Logged} →
+  both_alike : length l ≡ places → length m ≡ places → (call : Call) {r p : Result (Unit {0}) Refusal} {s q : Logged} →
       LogPromise call (logged_on t l k) r s → LogPromise call (logged_on t m k) p q → (r ≡ p) × Alike s q
   unfolding left
   both_alike a b call {r} {p} {s} {q} x y =
@@ -90,7 +91,7 @@ module _ (t l m : List ℕ) (k : ℕ) (e : take k l ≡ take k m) where
       )
 
 -- Two logs that agree up to the count are answered the same, and what is left is alike. [logged]
-pub past_no_part : {call : Call} {s q s' q' : Logged} {r p : Done} → length s.log ≡ places →
+pub past_no_part : {call : Call} {s q s' q' : Logged} {r p : Result (Unit {0}) Refusal} → length s.log ≡ places →
     length q.log ≡ places → Alike s q →
     LogPromise call s r s' → LogPromise call q p q' → (r ≡ p) × Alike s' q'
 past_no_part {call} {s} {q} {s'} {q'} {r} {p} a b same x y =

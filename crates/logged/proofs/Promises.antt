@@ -10,12 +10,12 @@ use native.Mathlib.Omega.{arith}
 use borrow.Author.Tests.{lt-ltb, le-leb, ltb-true, ltb-false, leb-true}
 use lib.ListN.{length}
 use lib.Dec.{leb, ltb}
+use Rattle.std.specs.Prelude.{Result, Ok, Err}
 use Rattle.table.specs.Sizes.{sized}
 use Rattle.table.specs.Order.{Passed, nondecreasing, suits}
 use Rattle.table.specs.Refusals.{Verdict, granted, refused, rung, and_then, number_in, if_granted}
-use Rattle.table.specs.Answers.{number_of_done}
+use Rattle.table.specs.Answers.{number_of_answer}
 use Rattle.table.specs.declared.Density.{Density}
-use Rattle.table.specs.declared.Done.{Done}
 use Rattle.table.specs.declared.Refusal.{Refusal}
 use Rattle.table.specs.declared.Refusal.TheVariants.{TableLength, NotNondecreasing, IndexBeyond, OutsideNeighbours}
 use Rattle.table.specs.declared.Refusal.TheVariants.{LogFull, NothingToTakeBack, BadLog}
@@ -35,24 +35,26 @@ pub log_some : (call : Call) (s : Logged) →
 log_some call s = record { number = done_number (call_verdict call s); after = refl }
 
 module _ {call : Call} {s : Logged} where
-  pub log_one : {r q : Done} {s' s'' : Logged} → LogPromise call s r s' → LogPromise call s q s'' → (r ≡ q) × (s' ≡ s'')
+  pub log_one : {r q : Result (Unit {0}) Refusal} {s' s'' : Logged} → LogPromise call s r s' → LogPromise call s q s''
+      → (r ≡ q) × (s' ≡ s'')
   log_one {r} {q} a b = (same_done r q (a.number ∙ sym b.number), a.after ∙ sym b.after)
 
   -- Each of the four calls answers what its tests come to. [logged]
-  pub log_answer : {r : Done} {s' : Logged} → LogPromise call s r s' → r ≡ done_by (call_verdict call s)
+  pub log_answer : {r : Result (Unit {0}) Refusal} {s' : Logged} → LogPromise call s r s'
+      → r ≡ done_by (call_verdict call s)
   log_answer a = done_is (call_verdict call s) a.number
 
   -- A granted call has passed its tests, and leaves what is defined. [logged]
-  pub log_granted : {s' : Logged} → LogPromise call s Done.Yes s' →
+  pub log_granted : {s' : Logged} → LogPromise call s (Ok tt) s' →
       (call_verdict call s ≡ granted) × (s' ≡ leaves call s)
   log_granted a = let w = done_granted (call_verdict call s) a.number in (w, a.after ∙ simp w)
 
   -- A refused call leaves table, log and count as they were. [logged]
-  pub log_refused : {why : Refusal} {s' : Logged} → LogPromise call s (Done.Refused why) s' → s' ≡ s
+  pub log_refused : {why : Refusal} {s' : Logged} → LogPromise call s (Err why) s' → s' ≡ s
   log_refused {why} a = a.after ∙ simp (done_refused (call_verdict call s) why a.number)
 
 -- Start with a log keeps, on the table, the promise of the start without one. [logged::log_start]
-pub start_same : {s s' : Logged} {r : Done} → LogPromise start s r s' →
+pub start_same : {s s' : Logged} {r : Result (Unit {0}) Refusal} → LogPromise start s r s' →
     StartPromise (sitting_on s.table) r (sitting_on s'.table)
 start_same {s} a =
     record { number = a.number; table = ap (λ (q : Logged). q.table) a.after ∙ part (call_verdict start s) }
@@ -62,7 +64,7 @@ start_same {s} a =
     part (refused why) = refl
 
 -- Accept with a log keeps the promise of the accept without one. [logged::log_accept]
-pub accept_same : {s s' : Logged} {r : Done} → LogPromise accept s r s' →
+pub accept_same : {s s' : Logged} {r : Result (Unit {0}) Refusal} → LogPromise accept s r s' →
     AcceptPromise (sitting_on s.table) r (sitting_on s'.table)
 accept_same {s} a =
     record { number = a.number; table = ap (λ (q : Logged). q.table) a.after ∙ part (call_verdict accept s) }
@@ -92,7 +94,7 @@ module _ (s : Logged) (i : ℕ) (v : Density) where
       ∙ rung_joined (sized (length s.table)) TableLength index last)
 
   -- With room it keeps, on the table, the promise of the nudge without a log. [logged::log_nudge]
-  pub nudge_same : {r : Done} {s' : Logged} → s.count < places → LogPromise (nudge i v) s r s' →
+  pub nudge_same : {r : Result (Unit {0}) Refusal} {s' : Logged} → s.count < places → LogPromise (nudge i v) s r s' →
       NudgePromise (sitting_on s.table) i v r (sitting_on s'.table)
   nudge_same h a =
       let w = nudge_verdict (sitting_on s.table) i v.0 in
@@ -112,11 +114,11 @@ module _ (s : Logged) (i : ℕ) (v : Density) where
 
   -- 15 is given exactly where the nudge could be granted without a log, and 63 stand. That is as many as there are
   -- places. [logged::log_nudge]
-  pub fifteen_exactly : {r : Done} {s' : Logged} → LogPromise (nudge i v) s r s' →
-      (number_of_done r ≡ 15) ↔ (Nudgeable s.table i v.0 × (s.count ≡ places))
+  pub fifteen_exactly : {r : Result (Unit {0}) Refusal} {s' : Logged} → LogPromise (nudge i v) s r s' →
+      (number_of_answer r ≡ 15) ↔ (Nudgeable s.table i v.0 × (s.count ≡ places))
   fifteen_exactly {r} a = (given, full)
     where
-      given : number_of_done r ≡ 15 → Nudgeable s.table i v.0 × (s.count ≡ places)
+      given : number_of_answer r ≡ 15 → Nudgeable s.table i v.0 × (s.count ≡ places)
       given e =
           let w = same_verdict (call_verdict (nudge i v) s) (refused LogFull) (sym a.number ∙ e) in
           let one = rung_holds (sized (length s.table)) TableLength _ LogFull w (λ q. omega arith) in
@@ -134,7 +136,7 @@ module _ (s : Logged) (i : ℕ) (v : Density) where
             le_antisymm (leb-true s.count places few.0) (ltb-false s.count places room),
           )
 
-      full : Nudgeable s.table i v.0 × (s.count ≡ places) → number_of_done r ≡ 15
+      full : Nudgeable s.table i v.0 × (s.count ≡ places) → number_of_answer r ≡ 15
       full f =
           let n = f.0 in
           let few = le-leb s.count places (omega (arith, f.1)) in
@@ -162,11 +164,11 @@ back_some s g =
     ltb-true 0 s.count (rung_granted (ltb 0 s.count) NothingToTakeBack granted sound.1).0
 
 -- 16 is given exactly where the table may be worked on, and none stands. [logged::take_back]
-pub sixteen_exactly : {s s' : Logged} {r : Done} → LogPromise take_back s r s' →
-    (number_of_done r ≡ 16) ↔ (Passed s.table × (s.count ≡ 0))
+pub sixteen_exactly : {s s' : Logged} {r : Result (Unit {0}) Refusal} → LogPromise take_back s r s' →
+    (number_of_answer r ≡ 16) ↔ (Passed s.table × (s.count ≡ 0))
 sixteen_exactly {s} {r = r} a = (given, none)
   where
-    given : number_of_done r ≡ 16 → Passed s.table × (s.count ≡ 0)
+    given : number_of_answer r ≡ 16 → Passed s.table × (s.count ≡ 0)
     given e =
         let w = same_verdict (call_verdict take_back s) (refused NothingToTakeBack) (sym a.number ∙ e) in
         let one = rung_holds (sized (length s.table)) TableLength _ NothingToTakeBack w (λ q. omega arith) in
@@ -176,6 +178,6 @@ sixteen_exactly {s} {r = r} a = (given, none)
         let f = ltb-false 0 s.count (rung_fails (ltb 0 s.count) NothingToTakeBack NothingToTakeBack sound.1) in
         (record { size = one.0; order = two.0 }, omega arith)
 
-    none : Passed s.table × (s.count ≡ 0) → number_of_done r ≡ 16
+    none : Passed s.table × (s.count ≡ 0) → number_of_answer r ≡ 16
     none f =
         a.number ∙ simp (f.0.size, f.0.order, le-leb s.count places (omega (arith, f.1)), none_stands f.1)

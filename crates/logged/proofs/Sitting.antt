@@ -13,16 +13,17 @@ use borrow.Author.Tests.{lt-ltb, le-ltb, le-leb}
 use lib.ListN.{length, get_or, set, take, length-set}
 use lib.Seq.{take-suc, take-suc-set, take-take, length-take-le}
 use lib.Dec.{ltb}
+use Rattle.std.specs.Prelude.{Result, Ok, Err}
 use Rattle.table.specs.Choice.{pick}
 use Rattle.table.specs.Sizes.{sized, spanned}
 use Rattle.table.specs.Order.{nondecreasing, suits}
 use Rattle.table.specs.Refusals.{granted, number_in, if_granted}
-use Rattle.table.specs.Answers.{number_of_done}
+use Rattle.table.specs.Answers.{number_of_answer}
 use Rattle.table.specs.Turns.{end}
 use Rattle.table.specs.declared.Density.{Density}
-use Rattle.table.specs.declared.Done.{Done}
 use Rattle.table.specs.declared.Refusal.TheVariants.{TableLength, NotNondecreasing, IndexBeyond, OutsideNeighbours}
 use Rattle.table.specs.declared.Refusal.TheVariants.{LogFull, NothingToTakeBack}
+use Rattle.table.specs.declared.Refusal.{Refusal}
 use Rattle.table.proofs.Choice.{never}
 use Rattle.table.proofs.Sizes.{within_low, within_high, is_within}
 use Rattle.table.proofs.Refusals.{rung_other}
@@ -71,10 +72,11 @@ ramp_size n h =
     is_within 1 65536 (length (ramp_of n)) (omega (arith, length_tabulated (ramp n) n, within_low 2 65536 n h))
     (omega (arith, length_tabulated (ramp n) n, within_high 2 65536 n h))
 
-held_open : (call : Call) (r : Done) (s s' : Logged) → Lent s → begins call r ≡ true → Step s call r s' →
+held_open : (call : Call) (r : Result (Unit {0}) Refusal) (s s' : Logged) → Lent s → begins call r ≡ true
+    → Step s call r s' →
     Held (length s.table) s'.table [] s'
-held_open call (Done.Refused why) s s' t o a = absurd (never o)
-held_open start Done.Yes s s' t o a =
+held_open call (Err why) s s' t o a = absurd (never o)
+held_open start (Ok tt) s s' t o a =
     let n = length s.table in
     let h : spanned n ≡ true = (start_granted (start_same a.1)).0 in
     subst (λ (q : Logged). Held n q.table [] q) (sym (log_granted a.1).1)
@@ -86,7 +88,7 @@ held_open start Done.Yes s s' t o a =
       size = ramp_size n h;
       same_length = length_tabulated (ramp n) n;
     })
-held_open accept Done.Yes s s' t o a =
+held_open accept (Ok tt) s s' t o a =
     let g = accept_granted (accept_same a.1) in
     subst (λ (q : Logged). Held (length s.table) q.table [] q) (sym (log_granted a.1).1)
     (record {
@@ -97,8 +99,8 @@ held_open accept Done.Yes s s' t o a =
       size = g.0;
       same_length = refl;
     })
-held_open (nudge i v) Done.Yes s s' t o a = absurd (never o)
-held_open take_back Done.Yes s s' t o a = absurd (never o)
+held_open (nudge i v) (Ok tt) s s' t o a = absurd (never o)
+held_open take_back (Ok tt) s s' t o a = absurd (never o)
 
 -- A granted nudge keeps it: one more stands.
 module _ {n : ℕ} {o ws : List ℕ} {s : Logged} (h : Held n o ws s) where
@@ -167,17 +169,17 @@ module _ {n : ℕ} {o ws : List ℕ} {s : Logged} (h : Held n o ws s) where
       }
 
   -- So every call keeps it, granted or refused.
-  held_step : (call : Call) (r : Done) (s' : Logged) → Step s call r s' →
+  held_step : (call : Call) (r : Result (Unit {0}) Refusal) (s' : Logged) → Step s call r s' →
       Held n (pick (begins call r) s'.table o) (stands_after s call r ws) s'
-  held_step call (Done.Refused why) s' a = subst (Held n o ws) (sym (log_refused a.1)) h
-  held_step start Done.Yes s' a =
-      subst (λ (m : ℕ). Held m s'.table [] s') h.same_length (held_open start Done.Yes s s' h.types refl a)
-  held_step accept Done.Yes s' a =
-      subst (λ (m : ℕ). Held m s'.table [] s') h.same_length (held_open accept Done.Yes s s' h.types refl a)
-  held_step (nudge i v) Done.Yes s' a =
+  held_step call (Err why) s' a = subst (Held n o ws) (sym (log_refused a.1)) h
+  held_step start (Ok tt) s' a =
+      subst (λ (m : ℕ). Held m s'.table [] s') h.same_length (held_open start (Ok tt) s s' h.types refl a)
+  held_step accept (Ok tt) s' a =
+      subst (λ (m : ℕ). Held m s'.table [] s') h.same_length (held_open accept (Ok tt) s s' h.types refl a)
+  held_step (nudge i v) (Ok tt) s' a =
       let g = log_granted a.1 in
       subst (Held n o (ws ++ (word i (get_or s.table i 0) v.0 ∷ []))) (sym g.1) (held_nudge i v a.0 g.0)
-  held_step take_back Done.Yes s' a =
+  held_step take_back (Ok tt) s' a =
       let g = log_granted a.1 in
       subst (Held n o (take (length ws - 1) ws)) (sym g.1) (held_back g.0)
 
@@ -207,7 +209,8 @@ module _ {n : ℕ} {o ws : List ℕ} {s : Logged} (h : Held n o ws s) where
       (λ (some : 0 < s.count). simp (le-leb _ _ h.few, lt-ltb _ _ some, last_goes some))
       (eq-zero-or-pos s.count)
 
-  never_17 : (call : Call) (r : Done) (s' : Logged) → Step s call r s' → number_of_done r ≡ 17 → ⊥
+  never_17 : (call : Call) (r : Result (Unit {0}) Refusal) (s' : Logged) → Step s call r s' → number_of_answer r ≡ 17
+      → ⊥
   never_17 call r s' a e = go call (sym a.1.number ∙ e)
     where
       go : (call : Call) → number_in (call_verdict call s) ≡ 17 → ⊥
@@ -228,13 +231,14 @@ module _ {n : ℕ} {o ws : List ℕ} {s : Logged} (h : Held n o ws s) where
           (rw sound
           (rung_other (ltb 0 s.count) NothingToTakeBack granted (λ q. omega arith) (λ q. omega arith))))
 
-  back_granted : (r : Done) (s' : Logged) → Step s take_back r s' → 0 < s.count → r ≡ Done.Yes
+  back_granted : (r : Result (Unit {0}) Refusal) (s' : Logged) → Step s take_back r s' → 0 < s.count → r ≡ Ok tt
   back_granted r s' a some =
       let order = kept_order h.kept in
-      same_done r Done.Yes
+      same_done r (Ok tt)
       (a.1.number ∙ simp (h.size, order, le-leb _ _ h.few, lt-ltb _ _ some, last_goes some))
 
-  back_refused : (r : Done) (s' : Logged) → Step s take_back r s' → (number_of_done r ≡ 16) ↔ (s.count ≡ 0)
+  back_refused : (r : Result (Unit {0}) Refusal) (s' : Logged) → Step s take_back r s'
+      → (number_of_answer r ≡ 16) ↔ (s.count ≡ 0)
   back_refused r s' a = (
     (λ e. ((sixteen_exactly a.1).0 e).1),
     (λ e. (sixteen_exactly a.1).1 (record { size = h.size; order = kept_order h.kept }, e)),
@@ -294,7 +298,7 @@ module _ {n : ℕ} {o : List ℕ} where
       let step : Step s take_back t.answer t.after =
       subst (λ (call : Call). Step s call t.answer t.after) b.0 run.0 in
       let yes = back_granted h t.answer t.after step (omega arith) in
-      let g = log_granted (subst (λ (r : Done). LogPromise take_back s r t.after) yes step.1) in
+      let g = log_granted (subst (λ (r : Result (Unit {0}) Refusal). LogPromise take_back s r t.after) yes step.1) in
       let less : t.after.count ≡ s.count - 1 = ap (λ (q : Logged). q.count) g.1 in
       let held = subst (Held n o (take (length ws - 1) ws)) (sym g.1) (held_back h g.0) in
       let rest = backs_lead backs held run.1 b.1 (omega arith) in
@@ -311,13 +315,13 @@ begins_one opening t o a = record { types = t; opened = o; run = (a, tt) }
 
 -- A start of every lent table of 2 to 65,536 entries begins a sitting, whatever its log holds and counts. [logged]
 pub start_begins : {lent : Logged} → Lent lent → spanned (length lent.table) ≡ true →
-    WholeSitting lent (record { call = start; answer = Done.Yes; after = leaves start lent }) []
+    WholeSitting lent (record { call = start; answer = (Ok tt); after = leaves start lent }) []
 start_begins t h = begins_one _ t refl (tt, record { number = simp h; after = simp h })
 
 -- An accept of every nondecreasing table of 1 to 65,536 entries begins a sitting. [logged]
 pub accept_begins : {lent : Logged} → Lent lent → sized (length lent.table) ≡ true →
     nondecreasing lent.table ≡ true →
-    WholeSitting lent (record { call = accept; answer = Done.Yes; after = leaves accept lent }) []
+    WholeSitting lent (record { call = accept; answer = (Ok tt); after = leaves accept lent }) []
 accept_begins t h r = begins_one _ t refl (tt, record { number = simp (h, r); after = simp (h, r) })
 
 -- From there every list of calls, given what their types allow, is one.

@@ -5,12 +5,12 @@ use mathlib.Core.List.{List, [], ◌∷◌}
 use Prim.Native.Nat.{ℕ, zero, suc}
 use lib.ListN.{set}
 use lib.Dec.{lit<}
+use Rattle.std.specs.Prelude.{Ok, Err}
 use Rattle.table.specs.Sizes.{within}
 use Rattle.table.specs.Order.{SixteenBits, not_below_left, not_above_right}
 use Rattle.table.specs.Fill.{tabulated}
 use Rattle.table.specs.Turns.{end}
 use Rattle.table.specs.declared.Density.{Density}
-use Rattle.table.specs.declared.Done.{Done}
 use Rattle.table.specs.declared.Refusal.{Refusal}
 use Rattle.table.specs.declared.Refusal.TheVariants.{TableLength, NotNondecreasing, IndexBeyond, OutsideNeighbours}
 use Rattle.table.specs.declared.Refusal.TheVariants.{LogFull, NothingToTakeBack, BadLog}
@@ -27,10 +27,10 @@ density n = record { 0 = n }
 
 -- a call is granted and leaves that, or is refused so and leaves all
 abbrev Leaves : Call → Logged → Logged → Type 0
-Leaves call s s' = LogPromise call s Done.Yes s'
+Leaves call s s' = LogPromise call s (Ok tt) s'
 
 abbrev Refuses : Call → Logged → Refusal → Type 0
-Refuses call s why = LogPromise call s (Done.Refused why) s
+Refuses call s why = LogPromise call s (Err why) s
 
 -- a log with 0 in every place
 blank : List ℕ
@@ -168,7 +168,7 @@ lent_well = record { bits = bits; room = refl }
     bits (suc (suc (suc i))) = lit< tt
 
 opened : Turn
-opened = record { call = accept; answer = Done.Yes; after = logged_on bent blank 0 }
+opened = record { call = accept; answer = (Ok tt); after = logged_on bent blank 0 }
 
 sitting : WholeSitting (logged_on bent blank 64) opened (turns_of (logged_on bent blank 0) calls)
 unfolding within bent calls opened density

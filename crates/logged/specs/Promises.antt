@@ -1,15 +1,15 @@
 -- What each call over a table and its log promises: when it is refused and by which number, and what it leaves of all
 -- three: the table, the log's words and the count. Assumes nothing.
-use Rattle.std.specs.Prelude.{ℕ, ◌+◌, ◌-◌, ◌≡◌, Bool, true, length, get_or, set, leb, ltb}
+use Rattle.std.specs.Prelude.{ℕ, ◌+◌, ◌-◌, ◌≡◌, Bool, true, length, get_or, set, leb, ltb, Result, Ok, Err}
 use Rattle.table.specs.Choice.{pick, both}
 use Rattle.table.specs.Sizes.{within}
 use Rattle.table.specs.Order.{nondecreasing, suits}
 use Rattle.table.specs.Refusals.{Verdict, granted, rung, number_in, if_granted}
-use Rattle.table.specs.Answers.{number_of_done}
+use Rattle.table.specs.Answers.{number_of_answer}
 use Rattle.table.specs.declared.Density.{Density}
-use Rattle.table.specs.declared.Done.{Done}
 use Rattle.table.specs.declared.Refusal.TheVariants.{TableLength, NotNondecreasing, IndexBeyond, OutsideNeighbours}
 use Rattle.table.specs.declared.Refusal.TheVariants.{LogFull, NothingToTakeBack, BadLog}
+use Rattle.table.specs.declared.Refusal.{Refusal}
 use Rattle.curve.specs.Ramp.{ramp_of}
 use Rattle.nudge_log.specs.Records.{places, word, taken_back, goes_with}
 use Rattle.logged.specs.State.{Logged, logged_on, last_standing}
@@ -67,11 +67,11 @@ leaves (nudge i v) s =
 leaves take_back s = logged_on (taken_back s.table (last_standing s)) s.log (s.count - 1)
 
 -- A refused call leaves all as it was.
-pub record LogPromise (call : Call) (s : Logged) (r : Done) (s' : Logged) : Type 0 where
-  pub number : number_of_done r ≡ number_in (call_verdict call s)
+pub record LogPromise (call : Call) (s : Logged) (r : Result (Unit {0}) Refusal) (s' : Logged) : Type 0 where
+  pub number : number_of_answer r ≡ number_in (call_verdict call s)
   pub after : s' ≡ if_granted (call_verdict call s) (leaves call s) s
 
 -- how many stand after a start or an accept that answered so, of k before it: what its inner function ensures
-abbrev pub count_after : Done → ℕ → ℕ
-count_after Done.Yes k = 0
-count_after (Done.Refused why) k = k
+abbrev pub count_after : Result (Unit {0}) Refusal → ℕ → ℕ
+count_after (Ok tt) k = 0
+count_after (Err why) k = k

@@ -1,13 +1,14 @@
 -- A sitting with a log, call by call, and what is demanded of it: document 02's rule, and demand 3 with take-backs.
 -- Only the promises are cited, so this holds of any code that keeps them. Assumes nothing.
 use Rattle.std.specs.Prelude.{ℕ, ◌-◌, ◌≤◌, ◌<◌, ◌≡◌, ◌↔◌, Bool, true, false, List, [], ◌∷◌, ◌++◌, length, get_or, take}
+use Rattle.std.specs.Prelude.{Result, Ok, Err}
 use Rattle.table.specs.Choice.{pick}
 use Rattle.table.specs.Sizes.{sized}
 use Rattle.table.specs.Order.{Nondecreasing}
-use Rattle.table.specs.Answers.{number_of_done}
+use Rattle.table.specs.Answers.{number_of_answer}
 use Rattle.table.specs.Turns as general
 use Rattle.table.specs.Turns.{end}
-use Rattle.table.specs.declared.Done.{Done}
+use Rattle.table.specs.declared.Refusal.{Refusal}
 use Rattle.lookup.specs.Demand.{LookupObeys}
 use Rattle.least.specs.Demand.{LeastObeys}
 use Rattle.nudge_log.specs.Records.{places, word, all_nudged}
@@ -22,7 +23,7 @@ Typed (nudge i v) = v.0 < 65536
 Typed take_back = Unit {0}
 
 -- a call, given what its types allow, does what it promises
-abbrev pub Step : Logged → Call → Done → Logged → Type 0
+abbrev pub Step : Logged → Call → Result (Unit {0}) Refusal → Logged → Type 0
 Step s call r s' = Typed call × LogPromise call s r s'
 
 -- one turn: a call, its answer, and what is there after it
@@ -35,12 +36,12 @@ abbrev pub Run : Logged → List Turn → Type 0
 Run = general.Run Step
 
 -- whether a turn makes its table the starting one: a granted start or accept
-abbrev pub begins : Call → Done → Bool
-begins call (Done.Refused why) = false
-begins start Done.Yes = true
-begins accept Done.Yes = true
-begins (nudge i v) Done.Yes = false
-begins take_back Done.Yes = false
+abbrev pub begins : Call → Result (Unit {0}) Refusal → Bool
+begins call (Err why) = false
+begins start (Ok tt) = true
+begins accept (Ok tt) = true
+begins (nudge i v) (Ok tt) = false
+begins take_back (Ok tt) = false
 
 -- A whole sitting on whatever is lent: a granted start or accept, and then any calls, granted or refused, starts and
 -- accepts among them.
@@ -64,12 +65,12 @@ starting_table opening turns = starting_from opening.after.table turns
 -- The nudges that stand after a call, told without a look at the log, where ws stood before it: a granted start or
 -- accept clears them, a granted nudge adds its own at the end, a granted take-back takes the last, and a refused call
 -- changes nothing.
-abbrev pub stands_after : Logged → Call → Done → List ℕ → List ℕ
-stands_after s call (Done.Refused why) ws = ws
-stands_after s start Done.Yes ws = []
-stands_after s accept Done.Yes ws = []
-stands_after s (nudge i v) Done.Yes ws = ws ++ (word i (get_or s.table i 0) v.0 ∷ [])
-stands_after s take_back Done.Yes ws = take (length ws - 1) ws
+abbrev pub stands_after : Logged → Call → Result (Unit {0}) Refusal → List ℕ → List ℕ
+stands_after s call (Err why) ws = ws
+stands_after s start (Ok tt) ws = []
+stands_after s accept (Ok tt) ws = []
+stands_after s (nudge i v) (Ok tt) ws = ws ++ (word i (get_or s.table i 0) v.0 ∷ [])
+stands_after s take_back (Ok tt) ws = take (length ws - 1) ws
 
 abbrev pub stands_from : Logged → List ℕ → List Turn → List ℕ
 stands_from s ws [] = ws
@@ -95,10 +96,12 @@ pub record Obeys (lent : Logged) (o ws : List ℕ) (s : Logged) : Type 0 where
   pub lookup : LookupObeys s.table
   pub least : LeastObeys s.table
   -- no call is refused with 17,
-  pub never_17 : (call : Call) (r : Done) (s' : Logged) → Step s call r s' → number_of_done r ≡ 17 → ⊥
+  pub never_17 : (call : Call) (r : Result (Unit {0}) Refusal) (s' : Logged) → Step s call r s'
+      → number_of_answer r ≡ 17 → ⊥
   -- and a take-back exactly where none stands, with 16.
-  pub back_refused : (r : Done) (s' : Logged) → Step s take_back r s' → (number_of_done r ≡ 16) ↔ (s.count ≡ 0)
-  pub back_granted : (r : Done) (s' : Logged) → Step s take_back r s' → 0 < s.count → r ≡ Done.Yes
+  pub back_refused : (r : Result (Unit {0}) Refusal) (s' : Logged) → Step s take_back r s'
+      → (number_of_answer r ≡ 16) ↔ (s.count ≡ 0)
+  pub back_granted : (r : Result (Unit {0}) Refusal) (s' : Logged) → Step s take_back r s' → 0 < s.count → r ≡ Ok tt
 
 -- It holds at the end of every sitting. The first turns of a sitting, however many, are a sitting too (`first_turns`),
 -- so it holds after each call.
@@ -115,7 +118,7 @@ Backs (t ∷ turns) = (t.call ≡ take_back) × Backs turns
 -- turns that are all granted
 abbrev pub AllGranted : List Turn → Type 0
 AllGranted [] = Unit {0}
-AllGranted (t ∷ turns) = (t.answer ≡ Done.Yes) × AllGranted turns
+AllGranted (t ∷ turns) = (t.answer ≡ Ok tt) × AllGranted turns
 
 -- Take back all, and the starting table is there again: after any sitting, as many take-backs as nudges stand are all
 -- granted, and leave that table.

@@ -14,7 +14,7 @@ use lib.ListN.{length, get_or}
 use lib.Dec.{lit<}
 use Rattle.table.specs.Sizes.{sized}
 use Rattle.table.specs.Order.{Nondecreasing, SixteenBits, last_entry}
-use Rattle.table.specs.Answers.{number_of_looked, value_of_looked}
+use Rattle.table.specs.Answers.{number_of_answer, value_of_looked}
 use Rattle.table.proofs.Sizes.{within_low}
 use Rattle.table.proofs.Quotient.{ceil_le_iff, div_mono}
 use Rattle.lookup.specs.Demand.{LookupIn, position_of, sample_of, LookupObeys, LookupDemand}
@@ -169,7 +169,7 @@ module _ (t : List ℕ) (size : sized (length t) ≡ true) (R : Nondecreasing t)
           lookup = record { position = record { 0 = p }; answer = _; bits = h; kept = lookup_some t _ };
           there = refl;
         };
-    granted = λ l. ap number_of_looked (lookup_granted size l.kept);
+    granted = λ l. ap number_of_answer (lookup_granted size l.kept);
     never_falls =
         λ l m le.
         omega (arith, sample_is size l, sample_is size m, looked_up_rises (position_of l) (position_of m) le m.bits);

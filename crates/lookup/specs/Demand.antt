@@ -1,18 +1,19 @@
 -- Demand 3's part on the 16-bit lookup: laws that any code keeping the lookup's promise obeys, on every nondecreasing
 -- table of 1 to 65,536 entries. Assumes nothing.
-use Rattle.std.specs.Prelude.{ℕ, ◌≤◌, ◌≡◌, true, List, length, get_or}
+use Rattle.std.specs.Prelude.{ℕ, ◌≤◌, ◌≡◌, true, List, length, get_or, Result}
 use Rattle.table.specs.Sizes.{sized}
 use Rattle.table.specs.Order.{Nondecreasing, last_entry}
-use Rattle.table.specs.Answers.{number_of_looked, value_of_looked}
+use Rattle.table.specs.Answers.{number_of_answer, value_of_looked}
 use Rattle.table.specs.declared.Drive.{Drive}
-use Rattle.table.specs.declared.Looked.{Looked}
+use Rattle.table.specs.declared.Density.{Density}
+use Rattle.table.specs.declared.Refusal.{Refusal}
 use Rattle.lookup.specs.Lookup.{lower, upper, steps}
 use Rattle.lookup.specs.Promises.{LookupPromise}
 
 -- a lookup in t: a 16-bit position, and any answer that keeps the promise there
 pub record LookupIn (t : List ℕ) : Type 0 where
   pub position : Drive
-  pub answer : Looked
+  pub answer : Result Density Refusal
   pub bits : position.0 ≤ 65535
   pub kept : LookupPromise t position answer
 
@@ -31,7 +32,7 @@ pub record LookupAt (t : List ℕ) (p : ℕ) : Type 0 where
 pub record LookupObeys (t : List ℕ) : Type 0 where
   -- there is one at every position, and none is refused
   pub everywhere : (p : ℕ) → p ≤ 65535 → LookupAt t p
-  pub granted : (l : LookupIn t) → number_of_looked l.answer ≡ 0
+  pub granted : (l : LookupIn t) → number_of_answer l.answer ≡ 0
   -- it never falls as the position rises
   pub never_falls : (l m : LookupIn t) → position_of l ≤ position_of m → sample_of l ≤ sample_of m
   -- it lies between its bracketing entries

@@ -3,16 +3,15 @@
 
 ghost use Rattle.lookup.specs.Promises.{LookupPromise};
 
-use table::{Density, Drive, Looked, Refusal, sized};
+use table::inside::SizedTable;
+use table::{Density, Drive, Refusal};
 
 pub mod inside;
 
 // The sample at a position. The table stands first in every call, where the Rust has it last.
-pub fn lut_interp_linear16(table: &[u16], p: Drive) -> Looked
+pub fn lut_interp_linear16(table: &[u16], p: Drive) -> Result<Density, Refusal>
     ensures { LookupPromise table.now p result }
 {
-    if !sized(table.len()) {
-        return Looked::Refused(Refusal::TableLength);
-    }
-    Looked::At(Density(inside::lookup(table, p.0)))
+    let table = SizedTable::of(table)?;
+    Ok(Density(inside::lookup(table, p.0)))
 }

@@ -21,7 +21,6 @@ pub enum Direction {
 pub enum Monotonic {
     Yes(usize),
     No(usize),
-    Refused(Refusal),
 }
 
 // 1 for a step against the direction, 0 for any other: a number, so that the count needs no branch.
@@ -29,22 +28,21 @@ fn against(direction: Direction, previous: usize, current: usize) -> u16
     ensures { (result ≡ yes_no (against direction previous current)) × (result ≤ 1) }
 {
     match direction {
-        Direction::Rising => (current < previous) as u16,
-        Direction::Falling => (previous < current) as u16,
+        Direction::Rising => u16::from(current < previous),
+        Direction::Falling => u16::from(previous < current),
     }
 }
 
 // How many steps from an entry to the next are against the direction. The count is as wide as an entry, so that the
-// compiler counts eight steps at a time.
+// compiler counts eight steps at a time. The table is no SizedTable, as an empty one gets a verdict too. By an
+// index: the edit first_pair_skipped is a slip of where it begins.
 fn violations(table: &[u16], direction: Direction) -> usize
     requires { length table.now ≤ 65536 }
     ensures { result ≡ violations direction table.now }
 {
     let mut count: u16 = 0;
-    let mut i = 1;
-    while i < table.len() {
+    for i in 1..table.len() {
         count += against(direction, entry(table, i - 1), entry(table, i));
-        i += 1;
     }
     wide(count)
 }
@@ -69,15 +67,15 @@ fn few_enough(n: usize, count: usize) -> bool
 }
 
 // Monotonic: 20 × violations < entries, or fewer than 2 entries. The verdict comes with the violations.
-pub fn is_curve_monotonic(table: &[u16], direction: Direction) -> Monotonic
+pub fn is_curve_monotonic(table: &[u16], direction: Direction) -> Result<Monotonic, Refusal>
     ensures { MonotonicPromise table.now direction result }
 {
     if !not_above(table.len()) {
-        return Monotonic::Refused(Refusal::TableLength);
+        return Err(Refusal::TableLength);
     }
     let count = violations(table, direction);
     if few_enough(table.len(), count) {
-        return Monotonic::Yes(count);
+        return Ok(Monotonic::Yes(count));
     }
-    Monotonic::No(count)
+    Ok(Monotonic::No(count))
 }

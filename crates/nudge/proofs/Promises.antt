@@ -10,11 +10,11 @@ use borrow.Author.Tests.{ltb-true}
 use lib.ListN.{length, get_or, set, length-set}
 use lib.Seq.{get_or-set_same, get_or-set_other}
 use lib.Dec.{ltb}
+use Rattle.std.specs.Prelude.{Result, Ok, Err}
 use Rattle.table.specs.Sizes.{sized}
 use Rattle.table.specs.Order.{nondecreasing, suits}
 use Rattle.table.specs.Refusals.{granted, if_granted}
 use Rattle.table.specs.declared.Density.{Density}
-use Rattle.table.specs.declared.Done.{Done}
 use Rattle.table.specs.declared.Refusal.{Refusal}
 use Rattle.table.specs.declared.Refusal.TheVariants.{TableLength, NotNondecreasing, IndexBeyond, OutsideNeighbours}
 use Rattle.table.proofs.Refusals.{rung_granted}
@@ -35,16 +35,18 @@ pub record Nudgeable (t : List ℕ) (i v : ℕ) : Type 0 where
   pub fitting : suits t i v ≡ true
 
 module _ {s : Sitting} {i : ℕ} {v : Density} where
-  pub nudge_one : {r q : Done} {s' s'' : Sitting} → NudgePromise s i v r s' → NudgePromise s i v q s''
+  pub nudge_one : {r q : Result (Unit {0}) Refusal} {s' s'' : Sitting} → NudgePromise s i v r s'
+      → NudgePromise s i v q s''
       → (r ≡ q) × (s' ≡ s'')
   nudge_one {r} {q} a b = (same_done r q (a.number ∙ sym b.number), ap sitting_on (a.table ∙ sym b.table))
 
   -- A nudge answers what its tests come to. [nudge::nudge]
-  pub nudge_answer : {r : Done} {s' : Sitting} → NudgePromise s i v r s' → r ≡ done_by (nudge_verdict s i v.0)
+  pub nudge_answer : {r : Result (Unit {0}) Refusal} {s' : Sitting} → NudgePromise s i v r s'
+      → r ≡ done_by (nudge_verdict s i v.0)
   nudge_answer a = done_is (nudge_verdict s i v.0) a.number
 
   -- A granted nudge has passed its tests, and leaves the table with that entry set. [nudge::nudge]
-  pub nudge_granted : {s' : Sitting} → NudgePromise s i v Done.Yes s'
+  pub nudge_granted : {s' : Sitting} → NudgePromise s i v (Ok tt) s'
       → Nudgeable s.table i v.0 × (s'.table ≡ set s.table i v.0)
   nudge_granted a =
       let w = done_granted (nudge_verdict s i v.0) a.number in
@@ -57,23 +59,24 @@ module _ {s : Sitting} {i : ℕ} {v : Density} where
       )
 
   -- A refused nudge leaves the table as it was. [nudge::nudge]
-  pub nudge_refused : {why : Refusal} {s' : Sitting} → NudgePromise s i v (Done.Refused why) s' → s' ≡ s
+  pub nudge_refused : {why : Refusal} {s' : Sitting} → NudgePromise s i v (Err why) s' → s' ≡ s
   nudge_refused {why} a = ap sitting_on (a.table ∙ simp (done_refused (nudge_verdict s i v.0) why a.number))
 
   -- A granted nudge sets the entry. [nudge::nudge]
-  pub nudge_sets : {s' : Sitting} → NudgePromise s i v Done.Yes s' → get_or s'.table i 0 ≡ v.0
+  pub nudge_sets : {s' : Sitting} → NudgePromise s i v (Ok tt) s' → get_or s'.table i 0 ≡ v.0
   nudge_sets a =
       let g = nudge_granted a in
       ap (λ (t : List ℕ). get_or t i 0) g.1 ∙ get_or-set_same s.table i v.0 0 g.0.index
 
   -- Whatever the answer, no other entry changes. [nudge::nudge]
-  pub nudge_others : (r : Done) {s' : Sitting} → NudgePromise s i v r s' → (j : ℕ) → (j ≡ i → ⊥)
+  pub nudge_others : (r : Result (Unit {0}) Refusal) {s' : Sitting} → NudgePromise s i v r s' → (j : ℕ) → (j ≡ i → ⊥)
       → get_or s'.table j 0 ≡ get_or s.table j 0
-  nudge_others Done.Yes a j h =
+  nudge_others (Ok tt) a j h =
       ap (λ (t : List ℕ). get_or t j 0) (nudge_granted a).1 ∙ get_or-set_other s.table i j v.0 0 h
-  nudge_others (Done.Refused why) a j h = ap (λ (q : Sitting). get_or q.table j 0) (nudge_refused a)
+  nudge_others (Err why) a j h = ap (λ (q : Sitting). get_or q.table j 0) (nudge_refused a)
 
   -- Whatever the answer, the table keeps its length. [nudge::nudge]
-  pub nudge_length : (r : Done) {s' : Sitting} → NudgePromise s i v r s' → length s'.table ≡ length s.table
-  nudge_length Done.Yes a = ap length (nudge_granted a).1 ∙ length-set s.table i v.0
-  nudge_length (Done.Refused why) a = ap (λ (q : Sitting). length q.table) (nudge_refused a)
+  pub nudge_length : (r : Result (Unit {0}) Refusal) {s' : Sitting} → NudgePromise s i v r s'
+      → length s'.table ≡ length s.table
+  nudge_length (Ok tt) a = ap length (nudge_granted a).1 ∙ length-set s.table i v.0
+  nudge_length (Err why) a = ap (λ (q : Sitting). length q.table) (nudge_refused a)

@@ -7,12 +7,13 @@ use mathlib.Core.List.{List, [], ◌∷◌}
 use Prim.Native.Nat.{ℕ, ◌<◌}
 use native.Mathlib.Omega.{arith}
 use lib.ListN.{length, set, length-set}
+use Rattle.std.specs.Prelude.{Result, Ok, Err}
 use Rattle.table.specs.Sizes.{sized, spanned}
 use Rattle.table.specs.Order.{nondecreasing, Passed, SixteenBits}
 use Rattle.table.specs.Refusals.{Verdict, if_granted}
 use Rattle.table.specs.Turns.{Throughout}
 use Rattle.table.specs.declared.Density.{Density}
-use Rattle.table.specs.declared.Done.{Done}
+use Rattle.table.specs.declared.Refusal.{Refusal}
 use Rattle.table.proofs.Choice.{never}
 use Rattle.table.proofs.Sizes.{within_low, within_high, is_within}
 use Rattle.table.proofs.Answers.{done_by}
@@ -44,7 +45,7 @@ held_ramp n h = record {
 }
 
 -- and so may what a granted start or accept leaves
-held_open : (call : Call) (s s' : Sitting) → opens call ≡ true → Step s call Done.Yes s' → Held s'
+held_open : (call : Call) (s s' : Sitting) → opens call ≡ true → Step s call (Ok tt) s' → Held s'
 held_open start s s' o a =
     let g = start_granted a in
     subst Held (sym (ap sitting_on g.1)) (held_ramp (length s.table) g.0)
@@ -53,7 +54,7 @@ held_open accept s s' o a =
     subst Held (sym (accept_same a)) (record { size = g.0; order = g.1 })
 held_open (nudge i v) s s' o a = absurd (never o)
 
-held_nudge : {s s' : Sitting} {i : ℕ} {v : Density} → Held s → NudgePromise s i v Done.Yes s' → Held s'
+held_nudge : {s s' : Sitting} {i : ℕ} {v : Density} → Held s → NudgePromise s i v (Ok tt) s' → Held s'
 held_nudge {s} {s'} {i} {v} h a =
     let g = nudge_granted a in
     subst Held (sym (ap sitting_on g.1))
@@ -63,18 +64,19 @@ held_nudge {s} {s'} {i} {v} h a =
     })
 
 -- After any call, granted or refused, a nondecreasing table of 1 to 65,536 entries still is one. [nudge::nudge]
-step_keeps : (call : Call) (r : Done) (s s' : Sitting) → Held s → Step s call r s' → Held s'
-step_keeps start Done.Yes s s' h a = held_open start s s' refl a
-step_keeps start (Done.Refused why) s s' h a = subst Held (sym (start_refused a)) h
+step_keeps : (call : Call) (r : Result (Unit {0}) Refusal) (s s' : Sitting) → Held s → Step s call r s' → Held s'
+step_keeps start (Ok tt) s s' h a = held_open start s s' refl a
+step_keeps start (Err why) s s' h a = subst Held (sym (start_refused a)) h
 step_keeps accept r s s' h a = subst Held (sym (accept_same a)) h
-step_keeps (nudge i v) Done.Yes s s' h a = held_nudge h a
-step_keeps (nudge i v) (Done.Refused why) s s' h a = subst Held (sym (nudge_refused a)) h
+step_keeps (nudge i v) (Ok tt) s s' h a = held_nudge h a
+step_keeps (nudge i v) (Err why) s s' h a = subst Held (sym (nudge_refused a)) h
 
 -- Every call, granted or refused, keeps the table's length. [nudge::nudge]
-step_length : (call : Call) (r : Done) (s s' : Sitting) → Step s call r s' → length s'.table ≡ length s.table
-step_length start Done.Yes s s' a =
+step_length : (call : Call) (r : Result (Unit {0}) Refusal) (s s' : Sitting) → Step s call r s'
+    → length s'.table ≡ length s.table
+step_length start (Ok tt) s s' a =
     ap length (start_granted a).1 ∙ length_tabulated (ramp (length s.table)) (length s.table)
-step_length start (Done.Refused why) s s' a = ap (λ (q : Sitting). length q.table) (start_refused a)
+step_length start (Err why) s s' a = ap (λ (q : Sitting). length q.table) (start_refused a)
 step_length accept r s s' a = ap (λ (q : Sitting). length q.table) (accept_same a)
 step_length (nudge i v) r s s' a = nudge_length r a
 
@@ -97,7 +99,7 @@ pub sitting_demand : SittingDemand
 sitting_demand lent opening turns w =
     let opened =
     held_open opening.call lent opening.after w.opened
-    (subst (λ (r : Done). Step lent opening.call r opening.after) w.granted w.run.0) in
+    (subst (λ (r : Result (Unit {0}) Refusal). Step lent opening.call r opening.after) w.granted w.run.0) in
     run_keeps lent turns opening.after opened
     (step_length opening.call opening.answer lent opening.after w.run.0) w.run.1
 
@@ -120,15 +122,16 @@ AllFit (t ∷ turns) = Fits t.call × AllFit turns
 abbrev pub Bits : Sitting → Type 0
 Bits s = SixteenBits s.table
 
-step_bits : (call : Call) (r : Done) (s s' : Sitting) → Fits call → Bits s → Step s call r s' → Bits s'
-step_bits start Done.Yes s s' f b a =
+step_bits : (call : Call) (r : Result (Unit {0}) Refusal) (s s' : Sitting) → Fits call → Bits s → Step s call r s'
+    → Bits s'
+step_bits start (Ok tt) s s' f b a =
     let g = start_granted a in
     subst SixteenBits (sym g.1) (ramp_bits (length s.table) g.0)
-step_bits start (Done.Refused why) s s' f b a = subst Bits (sym (start_refused a)) b
+step_bits start (Err why) s s' f b a = subst Bits (sym (start_refused a)) b
 step_bits accept r s s' f b a = subst Bits (sym (accept_same a)) b
-step_bits (nudge i v) Done.Yes s s' f b a =
+step_bits (nudge i v) (Ok tt) s s' f b a =
     subst SixteenBits (sym (nudge_granted a).1) (set_keeps_bits s.table i v.0 b f)
-step_bits (nudge i v) (Done.Refused why) s s' f b a = subst Bits (sym (nudge_refused a)) b
+step_bits (nudge i v) (Err why) s s' f b a = subst Bits (sym (nudge_refused a)) b
 
 -- The entries stay 16 bits wide where the samples of the nudges are. [nudge]
 pub run_keeps_bits : (turns : List Turn) (s : Sitting) → Bits s → AllFit turns → Run s turns → Throughout Bits s turns
@@ -141,18 +144,18 @@ run_keeps_bits (t ∷ turns) s b f run = (
 -- There are sittings.
 module _ (lent : Sitting) where
   -- Every granted start or accept begins a sitting. [nudge]
-  pub begins : (opening : Turn) → opens opening.call ≡ true → opening.answer ≡ Done.Yes
+  pub begins : (opening : Turn) → opens opening.call ≡ true → opening.answer ≡ Ok tt
       → Step lent opening.call opening.answer opening.after → WholeSitting lent opening []
   begins opening o g a = record { opened = o; granted = g; run = (a, tt) }
 
   -- A start of every lent table of 2 to 65,536 entries begins a sitting. [curve::start]
   pub start_begins : spanned (length lent.table) ≡ true → WholeSitting lent
-      (record { call = start; answer = Done.Yes; after = sitting_on (ramp_of (length lent.table)) }) []
+      (record { call = start; answer = (Ok tt); after = sitting_on (ramp_of (length lent.table)) }) []
   start_begins h = begins _ refl refl (record { number = simp h; table = simp h })
 
   -- An accept of every nondecreasing table of 1 to 65,536 entries begins a sitting. [curve::accept]
   pub accept_begins : sized (length lent.table) ≡ true → nondecreasing lent.table ≡ true
-      → WholeSitting lent (record { call = accept; answer = Done.Yes; after = lent }) []
+      → WholeSitting lent (record { call = accept; answer = (Ok tt); after = lent }) []
   accept_begins h o = begins _ refl refl (record { number = simp (h, o); table = refl })
 
 -- From there every list of calls is one: each has an answer by its tests, and leaves a table.

@@ -5,12 +5,12 @@ use mathlib.Core.List.{List, [], ◌∷◌}
 use Prim.Native.Nat.{ℕ, zero, suc}
 use lib.ListN.{length}
 use lib.Dec.{lit<}
+use Rattle.std.specs.Prelude.{Ok, Err}
 use Rattle.table.specs.Sizes.{within}
 use Rattle.table.specs.Order.{not_below_left, not_above_right}
 use Rattle.table.specs.Fill.{tabulated}
 use Rattle.table.specs.Turns.{Throughout}
 use Rattle.table.specs.declared.Density.{Density}
-use Rattle.table.specs.declared.Done.{Done}
 use Rattle.table.specs.declared.Refusal.TheVariants.{TableLength, NotNondecreasing, IndexBeyond, OutsideNeighbours}
 use Rattle.curve.specs.Ramp.{ramp}
 use Rattle.curve.specs.Promises.{Sitting, sitting_on}
@@ -31,33 +31,33 @@ bent = sitting_on (0 ∷ 100 ∷ 65535 ∷ [])
 falling : Sitting
 falling = sitting_on (9 ∷ 5 ∷ [])
 
-nudge_empty : NudgePromise (sitting_on []) 0 (density 7) (Done.Refused TableLength) (sitting_on [])
+nudge_empty : NudgePromise (sitting_on []) 0 (density 7) (Err TableLength) (sitting_on [])
 unfolding within density
 nudge_empty = record { number = refl; table = refl }
 
 nudge_of_65537 : (t : List ℕ) → length t ≡ 65537 → (i : ℕ) (v : Density)
-    → NudgePromise (sitting_on t) i v (Done.Refused TableLength) (sitting_on t)
+    → NudgePromise (sitting_on t) i v (Err TableLength) (sitting_on t)
 unfolding within
 nudge_of_65537 t e i v = record { number = simp e; table = simp e }
 
 -- of a falling table an index beyond it comes first
-nudge_beyond : NudgePromise falling 2 (density 7) (Done.Refused IndexBeyond) falling
+nudge_beyond : NudgePromise falling 2 (density 7) (Err IndexBeyond) falling
 unfolding within falling density
 nudge_beyond = record { number = refl; table = refl }
 
-nudge_falling : NudgePromise falling 1 (density 9) (Done.Refused NotNondecreasing) falling
+nudge_falling : NudgePromise falling 1 (density 9) (Err NotNondecreasing) falling
 unfolding within falling density
 nudge_falling = record { number = refl; table = refl }
 
-nudge_below_left : NudgePromise bent 2 (density 99) (Done.Refused OutsideNeighbours) bent
+nudge_below_left : NudgePromise bent 2 (density 99) (Err OutsideNeighbours) bent
 unfolding within not_below_left not_above_right bent density
 nudge_below_left = record { number = refl; table = refl }
 
-nudge_above_right : NudgePromise bent 0 (density 101) (Done.Refused OutsideNeighbours) bent
+nudge_above_right : NudgePromise bent 0 (density 101) (Err OutsideNeighbours) bent
 unfolding within not_below_left not_above_right bent density
 nudge_above_right = record { number = refl; table = refl }
 
-nudge_granted : NudgePromise straight 1 (density 100) Done.Yes bent
+nudge_granted : NudgePromise straight 1 (density 100) (Ok tt) bent
 unfolding within not_below_left not_above_right straight bent density
 nudge_granted = record { number = refl; table = refl }
 
@@ -67,12 +67,12 @@ lent : Sitting
 lent = sitting_on (7 ∷ 7 ∷ 7 ∷ [])
 
 opening : Turn
-opening = record { call = start; answer = Done.Yes; after = straight }
+opening = record { call = start; answer = (Ok tt); after = straight }
 
 nudges : List Turn
 nudges =
-    record { call = nudge 1 (density 100); answer = Done.Yes; after = bent }
-    ∷ record { call = nudge 0 (density 101); answer = Done.Refused OutsideNeighbours; after = bent }
+    record { call = nudge 1 (density 100); answer = (Ok tt); after = bent }
+    ∷ record { call = nudge 0 (density 101); answer = Err OutsideNeighbours; after = bent }
     ∷ []
 
 whole : WholeSitting lent opening nudges

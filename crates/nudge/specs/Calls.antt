@@ -1,9 +1,9 @@
 -- A sitting: calls one after the other, each with its answer and what it leaves. Only the promises are cited, so any
 -- code that keeps them has such sittings. Assumes nothing.
-use Rattle.std.specs.Prelude.{ℕ, ◌≡◌, Bool, true, false, List, ◌∷◌}
+use Rattle.std.specs.Prelude.{ℕ, ◌≡◌, Bool, true, false, List, ◌∷◌, Result, Ok}
 use Rattle.table.specs.Turns as general
 use Rattle.table.specs.declared.Density.{Density}
-use Rattle.table.specs.declared.Done.{Done}
+use Rattle.table.specs.declared.Refusal.{Refusal}
 use Rattle.curve.specs.Promises.{Sitting, StartPromise, AcceptPromise}
 use Rattle.nudge.specs.Promises.{NudgePromise}
 
@@ -14,7 +14,7 @@ pub data Call : Type 0 where
   nudge : ℕ → Density → Call
 
 -- a call does what it promises
-abbrev pub Step : Sitting → Call → Done → Sitting → Type 0
+abbrev pub Step : Sitting → Call → Result (Unit {0}) Refusal → Sitting → Type 0
 Step s start r s' = StartPromise s r s'
 Step s accept r s' = AcceptPromise s r s'
 Step s (nudge i v) r s' = NudgePromise s i v r s'
@@ -37,5 +37,5 @@ opens (nudge i v) = false
 -- nudges there; this says more.
 pub record WholeSitting (lent : Sitting) (opening : Turn) (turns : List Turn) : Type 0 where
   pub opened : opens opening.call ≡ true
-  pub granted : opening.answer ≡ Done.Yes
+  pub granted : opening.answer ≡ Ok tt
   pub run : Run lent (opening ∷ turns)

@@ -6,24 +6,25 @@ ghost use Rattle.curve.specs.Promises.{sitting_on};
 ghost use Rattle.nudge.specs.Promises.{NudgePromise};
 
 use table::inside::{suits, wide};
-use table::{Density, Done, Refusal, in_order, sized};
+use table::{Density, Refusal, in_order, sized};
 
-// Sets entry i to v, where v fits between the entries beside it.
-pub fn nudge(table: &mut [u16], i: usize, v: Density) -> Done
+// Sets entry i to v, where v fits between the entries beside it. Refusal 3 comes between the two tests of `accept`
+// (`nudge_verdict`), so that they are made here one by one.
+pub fn nudge(table: &mut [u16], i: usize, v: Density) -> Result<(), Refusal>
     ensures { NudgePromise (sitting_on table.old) i v result (sitting_on table.new) }
 {
     if !sized(table.len()) {
-        return Done::Refused(Refusal::TableLength);
+        return Err(Refusal::TableLength);
     }
     if table.len() <= i {
-        return Done::Refused(Refusal::IndexBeyond);
+        return Err(Refusal::IndexBeyond);
     }
     if !in_order(table) {
-        return Done::Refused(Refusal::NotNondecreasing);
+        return Err(Refusal::NotNondecreasing);
     }
     if !suits(table, i, wide(v.0)) {
-        return Done::Refused(Refusal::OutsideNeighbours);
+        return Err(Refusal::OutsideNeighbours);
     }
     table[i] = v.0;
-    Done::Yes
+    Ok(())
 }

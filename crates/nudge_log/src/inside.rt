@@ -1,5 +1,5 @@
 // What the calls over a log are made of. Shared helpers, not public; `word` has a precondition.
-ghost use Rattle.std.specs.Prelude.{◌≡◌, ◌≤◌, ◌<◌};
+ghost use Rattle.std.specs.Prelude.{◌≡◌, ◌<◌};
 ghost use Rattle.nudge_log.specs.Records.{word as word_of, new_of, old_of, index_of, goes_with};
 
 use table::inside::{entry, suits, wide};
@@ -7,19 +7,12 @@ use table::inside::{entry, suits, wide};
 // How many nudges a log holds.
 pub const PLACES: usize = 63;
 
-// A 16-bit number at the width of a word.
-fn widened(x: u16) -> u64
-    ensures { (result ≡ x) × (result ≤ 65535) }
-{
-    x as u64
-}
-
 // A granted nudge as one word.
 pub fn word(index: usize, old: u16, new: u16) -> u64
     requires { index < 65536 }
     ensures { result ≡ word_of index old new }
 {
-    index as u64 * 0x1_0000_0000 + widened(old) * 0x1_0000 + widened(new)
+    index as u64 * 0x1_0000_0000 + u64::from(old) * 0x1_0000 + u64::from(new)
 }
 
 pub fn new_of(word: u64) -> u16

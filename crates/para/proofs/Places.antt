@@ -1,11 +1,11 @@
 -- Seven numbers, place by place. Assumes nothing.
 use mathlib.Core.Path.{◌≡◌, ◌∙◌, refl, sym, ap}
 use mathlib.Core.Bool.{Bool, true, false}
-use mathlib.Core.List.{[], ◌∷◌, map}
+use mathlib.Core.List.{List, [], ◌∷◌, map}
 use Prim.Native.Nat.{ℕ, zero, suc, ◌≤◌, ◌<◌}
 use native.Mathlib.Omega.{arith}
 use borrow.Author.Tests.{ltb-true, lt-ltb}
-use lib.ListN.{length, take, get_or-map}
+use lib.ListN.{length, get_or, take, get_or-map}
 use lib.Seq.{ext_get_or, get_or-take, length-take-le}
 use lib.Dec.{ltb, lit<}
 use lib.IntN.{ℤ, pos}
@@ -21,13 +21,18 @@ pub placed_seven : (at : ℕ → ℤ) (k : ℕ) → k < 7 → placed (seven at) 
 unfolding tabulated
 placed_seven at k h = get_or_tabulated at 7 k (pos 0) h
 
--- Whatever is made of seven numbers, one at a time, and the numbers themselves.
-pub listed_made : {A : Type 0} {g a b c d e f : A} (make : ℤ → A) (m : Numbers)
-    → g ≡ make m.g → a ≡ make m.a → b ≡ make m.b → c ≡ make m.c → d ≡ make m.d → e ≡ make m.e
-    → f ≡ make m.f
-    → g ∷ a ∷ b ∷ c ∷ d ∷ e ∷ f ∷ [] ≡ map make (listed m)
-listed_made make m p q r s t u v = λ i. p i ∷ q i ∷ r i ∷ s i ∷ t i ∷ u i ∷ v i ∷ []
+-- a list whose entries are made of another's, one by one, is that list mapped
+pub mapped : {A B : Type 0} (make : A → B) (d : A) (e : B) (xs : List A) (ys : List B) → length ys ≡ length xs
+    → ((i : ℕ) → i < length xs → get_or ys i e ≡ make (get_or xs i d)) → ys ≡ map make xs
+mapped make d e [] [] long each = refl
+mapped make d e [] (y ∷ ys) long each = absurd (omega arith)
+mapped make d e (x ∷ xs) [] long each = absurd (omega arith)
+mapped make d e (x ∷ xs) (y ∷ ys) long each =
+    let first : y ≡ make x = each 0 (omega arith) in
+    let rest : ys ≡ map make xs = mapped make d e xs ys (omega arith) (λ i h. each (suc i) (omega arith)) in
+    λ i. first i ∷ rest i
 
+-- seven numbers, one at a time
 pub used_made : {g a b c d e f : ℤ} (n : ℕ) (at : ℕ → ℤ)
     → g ≡ used_at n at 0 → a ≡ used_at n at 1 → b ≡ used_at n at 2 → c ≡ used_at n at 3 → d ≡ used_at n at 4
     → e ≡ used_at n at 5 → f ≡ used_at n at 6

@@ -19,7 +19,8 @@ pub fn count_of(t: usize) -> usize
     }
 }
 
-// How many bytes n numbers and the twelve before them are.
+// How many bytes n numbers and the twelve before them are. `n ≤ 7` stays a precondition, here and in the crates above:
+// a type for it would hold a number alone.
 pub fn tag_length(n: usize) -> usize
     requires { n ≤ 7 }
     ensures { result ≡ tag_length n }

@@ -2,7 +2,6 @@
 #![tactic(auto)]
 
 ghost use Rattle.std.specs.Prelude.{◌≡◌, ◌≤◌, length};
-ghost use Rattle.para.specs.Signed.{signed_of};
 ghost use Rattle.para.specs.Tag.{tag_length, used_at, used, raw_at};
 ghost use Rattle.para.specs.Promises.{ReadPromise};
 
@@ -13,7 +12,7 @@ pub mod inside;
 
 // Seven raw 16.16 numbers in a tag's order, by ICC.1's letters. C and Rust see them as they stand here.
 #[repr(C)]
-#[derive(Clone, Copy)]
+#[derive(Clone, Copy, Default)]
 pub struct Numbers {
     pub g: i32,
     pub a: i32,
@@ -24,30 +23,13 @@ pub struct Numbers {
     pub f: i32,
 }
 
-// The answer of a call that reads a tag: how many numbers it has, and seven, of which the others are 0.
-#[derive(Clone, Copy)]
-pub enum Read {
-    Parameters(usize, Numbers),
-    Refused(Refusal),
-}
-
-// Two's complement. An `as` may lose nothing here, so a pattern from 2^31 on goes by its complement.
-fn signed_of(x: u32) -> i32
-    ensures { result ≡ signed_of x }
-{
-    if x < 0x8000_0000 {
-        return x as i32;
-    }
-    !(!x as i32)
-}
-
 // Number k of a tag that has n, or 0 where it has no such.
 fn number_at(tag: &[u8], n: usize, k: usize) -> i32
     requires { tag_length n ≤ length tag.now }
     ensures { result ≡ used_at n (raw_at tag.now) k }
 {
     if k < n {
-        return signed_of(u32_at(tag, 12 + 4 * k));
+        return u32_at(tag, 12 + 4 * k).cast_signed();
     }
     0
 }
@@ -69,28 +51,28 @@ fn numbers_of(tag: &[u8], n: usize) -> Numbers
 }
 
 // Reads a tag's count and its raw numbers.
-pub fn read_para(tag: &[u8]) -> Read
+pub fn read_para(tag: &[u8]) -> Result<(usize, Numbers), Refusal>
     ensures { ReadPromise tag.now result }
 {
     if tag.len() < 12 {
-        return Read::Refused(Refusal::TagLength);
+        return Err(Refusal::TagLength);
     }
     if u32_at(tag, 0) != inside::SIGNATURE {
-        return Read::Refused(Refusal::WrongSignature);
+        return Err(Refusal::WrongSignature);
     }
     if u32_at(tag, 4) != 0 {
-        return Read::Refused(Refusal::ReservedNotZero);
+        return Err(Refusal::ReservedNotZero);
     }
     if u16_at(tag, 10) != 0 {
-        return Read::Refused(Refusal::ReservedNotZero);
+        return Err(Refusal::ReservedNotZero);
     }
-    let function_type = u16_at(tag, 8) as usize;
+    let function_type = usize::from(u16_at(tag, 8));
     if 4 < function_type {
-        return Read::Refused(Refusal::FunctionType);
+        return Err(Refusal::FunctionType);
     }
     let n = inside::count_of(function_type);
     if tag.len() != inside::tag_length(n) {
-        return Read::Refused(Refusal::TagLength);
+        return Err(Refusal::TagLength);
     }
-    Read::Parameters(n, numbers_of(tag, n))
+    Ok((n, numbers_of(tag, n)))
 }

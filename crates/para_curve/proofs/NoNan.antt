@@ -10,8 +10,10 @@ use lib.ListN.{length}
 use lib.Dec.{T}
 use lib.Ieee.{Float, nan, binary32, eq}
 use lib.Ieee.Scale.{finite}
+use Rattle.std.specs.Prelude.{Result}
 use Rattle.table.specs.Fill.{tabulated}
 use Rattle.table.specs.Refusals.{Verdict, granted, refused, if_granted}
+use Rattle.table.specs.declared.Refusal.{Refusal}
 use Rattle.table.proofs.Fill.{length_tabulated, get_or_tabulated}
 use Rattle.icc.specs.Bytes.{EightBits, be32}
 use Rattle.icc.proofs.Numbers.{be32_halves, below16}
@@ -20,7 +22,6 @@ use Rattle.ieee.proofs.NoNan.{no_nan, finite_no_nan, Unquotable, nan_over, over_
 use Rattle.ieee.proofs.NoNan.{neg_div_nan}
 use Rattle.rounding.proofs.NoNan.{ratio_finite}
 use Rattle.parametric.specs.declared.ParametricCurve.{ParametricCurve}
-use Rattle.parametric.specs.declared.Unified.{Unified}
 use Rattle.parametric.specs.Unify.{parameter, counted}
 use Rattle.parametric.specs.Promises.{value_of_unified, no_curve}
 use Rattle.parametric.proofs.NoNan.{Kept, none_kept, unified_kept}
@@ -95,7 +96,7 @@ module _ (b : List ℕ) (w : EightBits b) where
       k.d_kept
 
 -- Of any bytes, granted or refused, no field but d is a NaN, or an infinity. [para_curve::read_parametric_curve]
-pub curve_no_nan : {b : List ℕ} {r : Unified} → EightBits b → CurvePromise b r
+pub curve_no_nan : {b : List ℕ} {r : Result ParametricCurve Refusal} → EightBits b → CurvePromise b r
     → Kept Finite (count_of (type_of b)) (value_of_unified r)
 curve_no_nan {b} {r} w p = subst (Kept Finite (count_of (type_of b))) (sym p.value) (go (tag_verdict b) refl)
   where
@@ -104,7 +105,8 @@ curve_no_nan {b} {r} w p = subst (Kept Finite (count_of (type_of b))) (sym p.val
     go (refused why) e = none_kept Finite tt tt (count_of (type_of b))
 
 -- d is a NaN only of types 1 and 2 where a and b are 0. [para_curve::read_parametric_curve]
-pub curve_d_nan : {b : List ℕ} {r : Unified} → EightBits b → CurvePromise b r → (value_of_unified r).d ≡ nan
+pub curve_d_nan : {b : List ℕ} {r : Result ParametricCurve Refusal} → EightBits b → CurvePromise b r
+    → (value_of_unified r).d ≡ nan
     → ((type_of b ≡ 1) ⊎ (type_of b ≡ 2)) × T (eq (value_of_unified r).a nought) × T (eq (value_of_unified r).b nought)
 curve_d_nan {b} {r} w p e = go (tag_verdict b) refl
   where

@@ -6,33 +6,27 @@ ghost use Rattle.parametric.specs.Promises.{NewPromise};
 ghost use Rattle.para.specs.Tag.{listed};
 ghost use Rattle.para_curve.specs.Promises.{nearest, CurvePromise};
 
-use para::{Numbers, Read, read_para};
-use parametric::{ParametricCurve, Unified};
+use para::{Numbers, read_para};
+use parametric::ParametricCurve;
 use rounding::s15_fixed16_number_to_float;
+use table::Refusal;
 
 // The curve of the first n numbers.
-fn curve_from(numbers: Numbers, n: usize) -> Unified
+fn curve_from(numbers: Numbers, n: usize) -> Result<ParametricCurve, Refusal>
     requires { n ≤ 7 }
     ensures { NewPromise (take n (map nearest (listed numbers))) result }
 {
-    let params = [
-        s15_fixed16_number_to_float(numbers.g),
-        s15_fixed16_number_to_float(numbers.a),
-        s15_fixed16_number_to_float(numbers.b),
-        s15_fixed16_number_to_float(numbers.c),
-        s15_fixed16_number_to_float(numbers.d),
-        s15_fixed16_number_to_float(numbers.e),
-        s15_fixed16_number_to_float(numbers.f),
+    let listed = [
+        numbers.g, numbers.a, numbers.b, numbers.c, numbers.d, numbers.e, numbers.f,
     ];
+    let params = listed.map(|number| s15_fixed16_number_to_float(number));
     ParametricCurve::new(&params[..n])
 }
 
 // Reads a tag as a curve.
-pub fn read_parametric_curve(tag: &[u8]) -> Unified
+pub fn read_parametric_curve(tag: &[u8]) -> Result<ParametricCurve, Refusal>
     ensures { CurvePromise tag.now result }
 {
-    match read_para(tag) {
-        Read::Refused(why) => Unified::Refused(why),
-        Read::Parameters(n, numbers) => curve_from(numbers, n),
-    }
+    let (n, numbers) = read_para(tag)?;
+    curve_from(numbers, n)
 }

@@ -6,9 +6,10 @@ use Prim.Native.Nat.{ℕ, ◌+◌, ◌*◌, ◌≤◌, ◌<◌}
 use native.Mathlib.Omega.{arith}
 use lib.ListN.{length, take, drop}
 use lib.Seq.{take-add, take_all, drop-drop}
+use Rattle.std.specs.Prelude.{Result, Ok}
 use Rattle.table.specs.Fill.{tabulated}
 use Rattle.table.specs.Refusals.{Verdict, granted, refused, number_in}
-use Rattle.table.specs.declared.Done.{Done}
+use Rattle.table.specs.declared.Refusal.{Refusal}
 use Rattle.table.proofs.Fill.{tabulated_same}
 use Rattle.icc.specs.Bytes.{EightBits, be32, bytes16, bytes32}
 use Rattle.icc.specs.Words.{in_turn}
@@ -17,7 +18,6 @@ use Rattle.icc.proofs.Numbers.{bytes_be16, below16, be32_halves}
 use Rattle.icc.proofs.Opening.{opens}
 use Rattle.icc.proofs.Words.{four_bytes, words_kept}
 use Rattle.para.specs.declared.Numbers.{Numbers}
-use Rattle.para.specs.declared.Read.{Read}
 use Rattle.para.specs.Tag.{signature, type_of, count_of, tag_length, placed, SignedBits, used, raw_at, numbers_of}
 use Rattle.para.specs.Promises.{tag_verdict, ReadPromise}
 use Rattle.para.proofs.Complement.{signed_wide}
@@ -42,9 +42,9 @@ numbers_wide b w =
 
 -- What is written reads back as its count and its numbers, those that were ignored as 0. [para_writer::write_para,
 -- para::read_para]
-pub written_reads : {t : ℕ} {m : Numbers} {out tag : List ℕ} {r : Read} → SignedBits m
-    → WritePromise t m out Done.Yes tag → ReadPromise tag r
-    → r ≡ Read.Parameters (count_of t) (used (count_of t) (placed m))
+pub written_reads : {t : ℕ} {m : Numbers} {out tag : List ℕ} {r : Result (ℕ × Numbers) Refusal} → SignedBits m
+    → WritePromise t m out (Ok tt) tag → ReadPromise tag r
+    → r ≡ Ok (count_of t, used (count_of t) (placed m))
 written_reads {t} {m} {out} {tag} wide written p =
     let g = granted_write t m out written in
     let stated : tag ≡ tag_of t m = g.1 in
@@ -94,12 +94,12 @@ module _ (b : List ℕ) (w : EightBits b) (ok : Readable b) where
 
 -- Tag bytes that are read are written back the same: by the type that has as many numbers, into a buffer of their
 -- length. [para_writer::write_para, para::read_para]
-pub read_writes : {b buffer b' : List ℕ} {n t : ℕ} {m : Numbers} {r : Done} → EightBits b
-    → ReadPromise b (Read.Parameters n m)
+pub read_writes : {b buffer b' : List ℕ} {n t : ℕ} {m : Numbers} {r : Result (Unit {0}) Refusal} → EightBits b
+    → ReadPromise b (Ok (n, m))
     → t ≤ 4 → count_of t ≡ n → length buffer ≡ length b → WritePromise t m buffer r b'
-    → (r ≡ Done.Yes) × (b' ≡ b)
+    → (r ≡ Ok tt) × (b' ≡ b)
 read_writes {b} {buffer} {n = n} {t = t} {m = m} w read known count e p =
-    let g = granted_read b (Read.Parameters n m) read n m refl in
+    let g = granted_read b (Ok (n, m)) read n m refl in
     let ok : Readable b = readable b g.verdict in
     let type : t ≡ type_of b = same_type known ok.known (count ∙ g.count) in
     let room : length buffer ≡ tag_length (count_of t)
@@ -109,13 +109,13 @@ read_writes {b} {buffer} {n = n} {t = t} {m = m} w read known count e p =
 
 -- What is written for numbers of 32 bits is bytes, eight bits wide. [para_writer::write_para]
 pub written_eight : {t : ℕ} {m : Numbers} {out tag : List ℕ}
-    → SignedBits m → WritePromise t m out Done.Yes tag → EightBits tag
+    → SignedBits m → WritePromise t m out (Ok tt) tag → EightBits tag
 written_eight {t} {m} {out} wide written =
     let g = granted_write t m out written in
     rw g.1 (tag_eight t m g.0 wide)
 
 -- Of numbers of 32 bits a write, whatever it answers, leaves bytes where bytes were. [para_writer::write_para]
-pub write_keeps_eight : {t : ℕ} {m : Numbers} {out out' : List ℕ} {r : Done}
+pub write_keeps_eight : {t : ℕ} {m : Numbers} {out out' : List ℕ} {r : Result (Unit {0}) Refusal}
     → SignedBits m → EightBits out → WritePromise t m out r out' → EightBits out'
 write_keeps_eight {t} {m} {out} {out'} wide eight p = go (write_verdict t out) refl
   where
@@ -126,8 +126,9 @@ write_keeps_eight {t} {m} {out} {out'} wide eight p = go (write_verdict t out) r
 
 -- What was written is read, and written again the same. Nothing is asked of its bytes: a write leaves what
 -- `read_writes` asks for. [para_writer::write_para]
-pub written_rewrites : {t u n : ℕ} {m m' : Numbers} {out tag again tag' : List ℕ} {r : Done} → SignedBits m
-    → WritePromise t m out Done.Yes tag → ReadPromise tag (Read.Parameters n m')
+pub written_rewrites : {t u n : ℕ} {m m' : Numbers} {out tag again tag' : List ℕ} {r : Result (Unit {0}) Refusal}
+    → SignedBits m
+    → WritePromise t m out (Ok tt) tag → ReadPromise tag (Ok (n, m'))
     → u ≤ 4 → count_of u ≡ n → length again ≡ length tag → WritePromise u m' again r tag'
-    → (r ≡ Done.Yes) × (tag' ≡ tag)
+    → (r ≡ Ok tt) × (tag' ≡ tag)
 written_rewrites wide written read known count room p = read_writes (written_eight wide written) read known count room p

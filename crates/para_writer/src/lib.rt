@@ -6,23 +6,13 @@ ghost use Rattle.std.specs.Prelude.{◌≡◌, ◌++◌, ◌≤◌, length, take
 ghost use Rattle.icc.specs.Bytes.{bytes32};
 ghost use Rattle.icc.specs.Words.{in_turn};
 ghost use Rattle.para.specs.Tag.{tag_length};
-ghost use Rattle.para_writer.specs.Written.{pattern_of, head, patterns};
+ghost use Rattle.para_writer.specs.Written.{head, patterns};
 ghost use Rattle.para_writer.specs.Promises.{WritePromise};
 
 use icc::inside::{put_opening, put_u16, put_u32};
 use para::Numbers;
 use para::inside::{SIGNATURE, count_of, tag_length};
-use table::{Done, Refusal};
-
-// Two's complement. An `as` may lose nothing here, so a number below 0 goes by its complement.
-fn pattern_of(z: i32) -> u32
-    ensures { result ≡ pattern_of z }
-{
-    if z >= 0 {
-        return z as u32;
-    }
-    !(!z as u32)
-}
+use table::Refusal;
 
 // The first twelve bytes of a tag of type t.
 fn put_head(out: &mut [u8], t: u16)
@@ -39,10 +29,8 @@ fn put_patterns(patterns: &[u32], out: &mut [u8])
     requires { length out.old ≡ tag_length (length patterns.now) }
     ensures { out.new ≡ take 12 out.old ++ in_turn bytes32 patterns.now }
 {
-    let mut k = 0;
-    while k < patterns.len() {
-        put_u32(out, 12 + 4 * k, patterns[k]);
-        k += 1;
+    for (k, pattern) in patterns.iter().enumerate() {
+        put_u32(out, 12 + 4 * k, *pattern);
     }
 }
 
@@ -52,30 +40,25 @@ fn put_numbers(numbers: Numbers, n: usize, out: &mut [u8])
     requires out_len { length out.old ≡ tag_length n }
     ensures { out.new ≡ take 12 out.old ++ in_turn bytes32 (take n (patterns numbers)) }
 {
-    let patterns = [
-        pattern_of(numbers.g),
-        pattern_of(numbers.a),
-        pattern_of(numbers.b),
-        pattern_of(numbers.c),
-        pattern_of(numbers.d),
-        pattern_of(numbers.e),
-        pattern_of(numbers.f),
+    let listed = [
+        numbers.g, numbers.a, numbers.b, numbers.c, numbers.d, numbers.e, numbers.f,
     ];
+    let patterns = listed.map(|number| number.cast_unsigned());
     put_patterns(&patterns[..n], out);
 }
 
 // Writes a function type and the numbers that it uses as a tag.
-pub fn write_para(t: usize, numbers: Numbers, out: &mut [u8]) -> Done
+pub fn write_para(t: usize, numbers: Numbers, out: &mut [u8]) -> Result<(), Refusal>
     ensures { WritePromise t numbers out.old result out.new }
 {
     if 4 < t {
-        return Done::Refused(Refusal::FunctionType);
+        return Err(Refusal::FunctionType);
     }
     let n = count_of(t);
     if out.len() != tag_length(n) {
-        return Done::Refused(Refusal::OutputLength);
+        return Err(Refusal::OutputLength);
     }
     put_head(out, t as u16);
     put_numbers(numbers, n, out);
-    Done::Yes
+    Ok(())
 }

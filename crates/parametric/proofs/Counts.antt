@@ -8,10 +8,12 @@ use native.Mathlib.Omega.{arith}
 use borrow.Author.Tests.{ne_eqb}
 use lib.ListN.{length, take}
 use lib.Ieee.{Float}
+use Rattle.std.specs.Prelude.{Result}
+use Rattle.table.specs.Answers.{number_of_answer}
+use Rattle.table.specs.declared.Refusal.{Refusal}
 use Rattle.parametric.specs.declared.ParametricCurve.{ParametricCurve}
-use Rattle.parametric.specs.declared.Unified.{Unified}
 use Rattle.parametric.specs.Unify.{counted, unified}
-use Rattle.parametric.specs.Promises.{number_of_unified, value_of_unified, NewPromise}
+use Rattle.parametric.specs.Promises.{value_of_unified, NewPromise}
 use Rattle.parametric.specs.Counts.{fields, OneGives, ThreeAndFourSet, FourSets, ThreeAndFiveSet, NewObeys}
 use Rattle.parametric.proofs.Unify.{counted_last}
 
@@ -71,7 +73,7 @@ counts_not : (n : ℕ) → (n ≡ 1 → ⊥) → (n ≡ 3 → ⊥) → (n ≡ 4 
 counts_not n a b c d e = counted_last n a b c d ∙ ne_eqb n 7 e
 
 -- Document 01's sentences hold, field by field (`NewObeys`). [parametric::ParametricCurve::new]
-pub new_obeys : {params : List Float} {r : Unified} → NewPromise params r → NewObeys params r
+pub new_obeys : {params : List Float} {r : Result ParametricCurve Refusal} → NewPromise params r → NewObeys params r
 unfolding counted
 new_obeys {params} {r} p = record {
   of_one = λ h. let t = counts n 1 h refl in (number t, made (OneGives params) t (one_gives params h));
@@ -97,7 +99,7 @@ new_obeys {params} {r} p = record {
     n : ℕ
     n = length params
 
-    number : counted (length params) ≡ true → number_of_unified r ≡ 0
+    number : counted (length params) ≡ true → number_of_answer r ≡ 0
     number t = simp t at p.number
 
     made : (P : ParametricCurve → Type 0) → counted (length params) ≡ true → P (unified params) → P (value_of_unified r)

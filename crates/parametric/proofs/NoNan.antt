@@ -9,13 +9,14 @@ use native.Mathlib.Omega.{arith}
 use lib.ListN.{length}
 use lib.Dec.{lit<}
 use lib.Ieee.{Float, nan, binary32, neg, div, is_nan}
+use Rattle.std.specs.Prelude.{Result}
 use Rattle.table.specs.Refusals.{granted, rung, if_granted}
 use Rattle.table.specs.declared.Refusal.TheVariants.{ParameterCount}
+use Rattle.table.specs.declared.Refusal.{Refusal}
 use Rattle.table.proofs.Choice.{never}
 use Rattle.ieee.specs.Range.{nought, one}
 use Rattle.ieee.proofs.NoNan.{no_nan, Unquotable, neg_div_nan}
 use Rattle.parametric.specs.declared.ParametricCurve.{ParametricCurve}
-use Rattle.parametric.specs.declared.Unified.{Unified}
 use Rattle.parametric.specs.Unify.{parameter, counted, unified}
 use Rattle.parametric.specs.Promises.{value_of_unified, no_curve, NewPromise}
 use Rattle.parametric.proofs.Unify.{then_seven}
@@ -104,7 +105,7 @@ module _ (P : Float → Type 0) (zero : P nought) (unit : P one) where
       absurd (omega arith)
 
   -- of any list, granted or refused
-  pub new_kept : {params : List Float} {r : Unified} → Each params → NewPromise params r
+  pub new_kept : {params : List Float} {r : Result ParametricCurve Refusal} → Each params → NewPromise params r
       → Kept P (length params) (value_of_unified r)
   new_kept {params} {r} p a = subst (Kept P (length params)) (sym a.value) (go (counted (length params)) refl)
     where
@@ -126,7 +127,8 @@ unfolding is_nan
 one_not = no_nan one refl
 
 -- Where no parameter is a NaN, no field but d is one. [parametric::ParametricCurve::new]
-pub new_no_nan : {params : List Float} {r : Unified} → ((i : ℕ) → i < length params → NotNan (parameter params i))
+pub new_no_nan : {params : List Float} {r : Result ParametricCurve Refusal}
+    → ((i : ℕ) → i < length params → NotNan (parameter params i))
     → NewPromise params r → Kept NotNan (length params) (value_of_unified r)
 new_no_nan = new_kept NotNan zero_not one_not
 

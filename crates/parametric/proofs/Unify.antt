@@ -1,20 +1,19 @@
 -- The curve of each count, what a count may be, and that the promise names one answer. Assumes nothing.
-use mathlib.Core.Path.{◌≡◌, ◌∙◌, sym, ap}
-use mathlib.Core.Logic.{⊎_elim}
+use mathlib.Core.Path.{◌≡◌, ◌∙◌, sym}
 use mathlib.Core.Bool.{true}
 use mathlib.Core.List.{List}
-use Prim.Native.Nat.{ℕ, ◌≤◌}
-use native.Mathlib.Omega.{arith}
+use Prim.Native.Nat.{ℕ}
 use borrow.Author.Tests.{eqb-true, ne_eqb}
 use lib.ListN.{length}
 use lib.Dec.{eqb}
 use lib.Ieee.{Float}
-use Rattle.table.proofs.Choice.{below?}
-use Rattle.table.proofs.Refusals.{same_refusal, number_above}
+use Rattle.std.specs.Prelude.{Result}
+use Rattle.table.specs.Answers.{number_of_answer}
+use Rattle.table.specs.declared.Refusal.{Refusal}
+use Rattle.table.proofs.Answers.{same_answer}
 use Rattle.parametric.specs.declared.ParametricCurve.{ParametricCurve}
-use Rattle.parametric.specs.declared.Unified.{Unified}
 use Rattle.parametric.specs.Unify.{parameter, of_one, of_three, of_four, of_five, of_seven, counted, unified}
-use Rattle.parametric.specs.Promises.{number_of_unified, value_of_unified, NewPromise}
+use Rattle.parametric.specs.Promises.{value_of_unified, NewPromise}
 
 module _ (l : List Float) {curve : ParametricCurve} where
   -- Of one parameter the curve is `of_one` of it. [parametric::ParametricCurve::new]
@@ -50,32 +49,15 @@ pub counted_last : (n : ℕ) → (n ≡ 1 → ⊥) → (n ≡ 3 → ⊥) → (n 
 unfolding counted
 counted_last n a b c d = simp (ne_eqb n 1 a, ne_eqb n 3 b, ne_eqb n 4 c, ne_eqb n 5 d)
 
--- so a count that is none of the smaller ones is at least the next, and at last seven
-module _ (n : ℕ) (h : counted n ≡ true) where
-  -- A count that is allowed, and is not 1, 3, 4 or 5, is 7. [parametric::ParametricCurve::new]
-  pub then_seven : (n ≡ 1 → ⊥) → (n ≡ 3 → ⊥) → (n ≡ 4 → ⊥) → (n ≡ 5 → ⊥) → n ≡ 7
-  then_seven a b c d = eqb-true n 7 (sym (counted_last n a b c d) ∙ h)
+-- A count that is allowed, and is not 1, 3, 4 or 5, is 7. [parametric::ParametricCurve::new]
+pub then_seven : (n : ℕ) → counted n ≡ true → (n ≡ 1 → ⊥) → (n ≡ 3 → ⊥) → (n ≡ 4 → ⊥) → (n ≡ 5 → ⊥) → n ≡ 7
+then_seven n h a b c d = eqb-true n 7 (sym (counted_last n a b c d) ∙ h)
 
-  pub then_five : (n ≡ 1 → ⊥) → (n ≡ 3 → ⊥) → (n ≡ 4 → ⊥) → 5 ≤ n
-  then_five a b c =
-      ⊎_elim (λ l. let e = then_seven a b c (λ e. omega arith) in absurd (omega arith)) (λ g. g) (below? n 5)
-
-  pub then_four : (n ≡ 1 → ⊥) → (n ≡ 3 → ⊥) → 4 ≤ n
-  then_four a b = ⊎_elim (λ l. let e = then_five a b (λ e. omega arith) in absurd (omega arith)) (λ g. g) (below? n 4)
-
-  pub then_three : (n ≡ 1 → ⊥) → 3 ≤ n
-  then_three a = ⊎_elim (λ l. let e = then_four a (λ e. omega arith) in absurd (omega arith)) (λ g. g) (below? n 3)
-
-  pub first_one : 1 ≤ n
-  first_one = ⊎_elim (λ l. let e = then_three (λ e. omega arith) in absurd (omega arith)) (λ g. g) (below? n 1)
-
-pub same_unified : (r s : Unified) → number_of_unified r ≡ number_of_unified s
+pub same_unified : (r s : Result ParametricCurve Refusal) → number_of_answer r ≡ number_of_answer s
     → value_of_unified r ≡ value_of_unified s → r ≡ s
-same_unified (Unified.Curve a) (Unified.Curve b) e v = ap Unified.Curve v
-same_unified (Unified.Curve a) (Unified.Refused b) e v = absurd (omega (arith, number_above b))
-same_unified (Unified.Refused a) (Unified.Curve b) e v = absurd (omega (arith, number_above a))
-same_unified (Unified.Refused a) (Unified.Refused b) e v = ap Unified.Refused (same_refusal a b e)
+same_unified = same_answer value_of_unified (λ a b v. v)
 
 -- the promise names one answer, all NaNs being one
-pub new_one : {params : List Float} {r s : Unified} → NewPromise params r → NewPromise params s → r ≡ s
+pub new_one : {params : List Float} {r s : Result ParametricCurve Refusal} → NewPromise params r → NewPromise params s
+    → r ≡ s
 new_one {params} {r} {s} a b = same_unified r s (a.number ∙ sym b.number) (a.value ∙ sym b.value)

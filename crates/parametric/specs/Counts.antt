@@ -1,12 +1,13 @@
 -- Document 01's sentences on the unified curve, one record each, field by field. `Unify` makes a curve from a list of
 -- parameters; these records say of a curve and a list whether the sentence holds. Assumes nothing.
-use Rattle.std.specs.Prelude.{◌≡◌, ℕ, List, [], ◌∷◌, length, take, drop, Float}
+use Rattle.std.specs.Prelude.{◌≡◌, ℕ, List, [], ◌∷◌, length, take, drop, Float, Result}
 use Rattle.std.specs.Float.{binary32}
 use Rattle.std.specs.Float.Ieee.{neg, div}
+use Rattle.table.specs.Answers.{number_of_answer}
+use Rattle.table.specs.declared.Refusal.{Refusal}
 use Rattle.ieee.specs.Range.{nought, one}
 use Rattle.parametric.specs.declared.ParametricCurve.{ParametricCurve}
-use Rattle.parametric.specs.declared.Unified.{Unified}
-use Rattle.parametric.specs.Promises.{number_of_unified, value_of_unified}
+use Rattle.parametric.specs.Promises.{value_of_unified}
 
 -- "Seven floats g, a, b, c, d, e, f": the curve's, in this order
 abbrev pub fields : ParametricCurve → List Float
@@ -34,15 +35,15 @@ pub record ThreeAndFiveSet (y : ParametricCurve) : Type 0 where
   pub e_nought : y.e ≡ nought
   pub f_nought : y.f ≡ nought
 
-abbrev Granted : Unified → Type 0
-Granted r = number_of_unified r ≡ 0
+abbrev Granted : Result ParametricCurve Refusal → Type 0
+Granted r = number_of_answer r ≡ 0
 
 -- none of the five counts
 abbrev Other : ℕ → Type 0
 Other n = (n ≡ 1 → ⊥) × (n ≡ 3 → ⊥) × (n ≡ 4 → ⊥) × (n ≡ 5 → ⊥) × (n ≡ 7 → ⊥)
 
 -- What the sentences come to for each count, and row 7: "parameter count is not 1, 3, 4, 5 or 7".
-pub record NewObeys (params : List Float) (r : Unified) : Type 0 where
+pub record NewObeys (params : List Float) (r : Result ParametricCurve Refusal) : Type 0 where
   pub of_one : length params ≡ 1 → Granted r × OneGives params (value_of_unified r)
   pub of_three : length params ≡ 3
       → Granted r × ThreeAndFourSet params (value_of_unified r) × ThreeAndFiveSet (value_of_unified r)
@@ -51,4 +52,4 @@ pub record NewObeys (params : List Float) (r : Unified) : Type 0 where
   pub of_five : length params ≡ 5
       → Granted r × (params ≡ take 5 (fields (value_of_unified r))) × ThreeAndFiveSet (value_of_unified r)
   pub of_seven : length params ≡ 7 → Granted r × (params ≡ fields (value_of_unified r))
-  pub of_others : Other (length params) → number_of_unified r ≡ 7
+  pub of_others : Other (length params) → number_of_answer r ≡ 7

@@ -1,10 +1,11 @@
 // Parametric curves: unified from the 1, 3, 4, 5 or 7 parameters of a tag, and compared.
 #![tactic(auto)]
 
-ghost use Rattle.std.specs.Prelude.{◌≡◌, true, min, length};
+ghost use Rattle.std.specs.Prelude.{◌≡◌, not, zip};
+ghost use Rattle.std.specs.List.{list_all};
 ghost use Rattle.parametric.specs.Compare.{far};
 ghost use Rattle.parametric.specs.Promises.{NewPromise, ComparePromise};
-ghost use Rattle.parametric.specs.Unify.{of_one, of_three, of_four, of_five, counted, unified};
+ghost use Rattle.parametric.specs.Unify.{of_one, of_three, of_four, of_five};
 
 use rounding::abs_f32;
 use table::Refusal;
@@ -20,13 +21,6 @@ pub struct ParametricCurve {
     pub d: f32,
     pub e: f32,
     pub f: f32,
-}
-
-// The answer of `ParametricCurve::new`.
-#[derive(Clone, Copy)]
-pub enum Unified {
-    Curve(ParametricCurve),
-    Refused(Refusal),
 }
 
 fn of_one(g: f32) -> ParametricCurve
@@ -85,69 +79,29 @@ fn of_five(g: f32, a: f32, b: f32, c: f32, d: f32) -> ParametricCurve
     }
 }
 
-// Whether a curve may have so many parameters.
-fn counted(count: usize) -> bool
-    ensures { result ≡ counted count }
-{
-    if count == 1 {
-        return true;
-    }
-    if count == 3 {
-        return true;
-    }
-    if count == 4 {
-        return true;
-    }
-    if count == 5 {
-        return true;
-    }
-    count == 7
-}
-
-// The curve of so many parameters, each read once.
-fn of_params(params: &[f32]) -> ParametricCurve
-    requires { counted (length params.now) ≡ true }
-    ensures { result ≡ unified params.now }
-{
-    let n = params.len();
-    let g = params[0];
-    if n == 1 {
-        return of_one(g);
-    }
-    let a = params[1];
-    let b = params[2];
-    if n == 3 {
-        return of_three(g, a, b);
-    }
-    let c = params[3];
-    if n == 4 {
-        return of_four(g, a, b, c);
-    }
-    let d = params[4];
-    if n == 5 {
-        return of_five(g, a, b, c, d);
-    }
-    ParametricCurve {
-        g,
-        a,
-        b,
-        c,
-        d,
-        e: params[5],
-        f: params[6],
-    }
-}
-
 impl ParametricCurve {
     // One shape of curve for every count: whoever works with it need not know which function type the parameters came
     // from.
-    pub fn new(params: &[f32]) -> Unified
+    #[tactic(auto, unfolding(crate::specs::Unify::counted, crate::specs::Unify::unified))]
+    pub fn new(params: &[f32]) -> Result<ParametricCurve, Refusal>
         ensures { NewPromise params.now result }
     {
-        if !counted(params.len()) {
-            return Unified::Refused(Refusal::ParameterCount);
+        match *params {
+            [g] => Ok(of_one(g)),
+            [g, a, b] => Ok(of_three(g, a, b)),
+            [g, a, b, c] => Ok(of_four(g, a, b, c)),
+            [g, a, b, c, d] => Ok(of_five(g, a, b, c, d)),
+            [g, a, b, c, d, e, f] => Ok(ParametricCurve {
+                g,
+                a,
+                b,
+                c,
+                d,
+                e,
+                f,
+            }),
+            _ => Err(Refusal::ParameterCount),
         }
-        Unified::Curve(of_params(params))
     }
 }
 
@@ -157,26 +111,16 @@ fn too_far(s: f32, d: f32) -> bool
     abs_f32(s - d) > 1e-4
 }
 
-fn shorter(a: usize, b: usize) -> usize
-    ensures { result ≡ min a b }
+// Whether no two at one place are far apart. `zip` ends with the shorter list.
+fn none_far(src: &[f32], dst: &[f32]) -> bool
+    ensures { result ≡ list_all (λ p. not (far p.0 p.1)) (zip src.now dst.now) }
 {
-    if a < b {
-        return a;
-    }
-    b
+    src.iter().zip(dst).all(|(s, d)| !too_far(*s, *d))
 }
 
 // Whether two lists of parameters are close, over the shorter length. A NaN difference counts as close.
 pub fn compare_parametric(src: &[f32], dst: &[f32]) -> bool
     ensures { ComparePromise src.now dst.now result }
 {
-    let n = shorter(src.len(), dst.len());
-    let mut i = 0;
-    while i < n {
-        if too_far(src[i], dst[i]) {
-            return false;
-        }
-        i += 1;
-    }
-    true
+    none_far(src, dst)
 }

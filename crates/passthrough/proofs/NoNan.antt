@@ -9,9 +9,9 @@ use lib.ListN.{length, get_or}
 use lib.Dec.{lit≤}
 use lib.Pow.{pow_pos}
 use lib.Ieee.{Float, nan, binary64, mul, div, is_nan}
+use Rattle.std.specs.Prelude.{Ok}
 use Rattle.table.specs.Sizes.{spanned}
 use Rattle.table.specs.Refusals.{granted}
-use Rattle.table.specs.declared.Done.{Done}
 use Rattle.table.proofs.Sizes.{within_low, within_high}
 use Rattle.table.proofs.Refusals.{rung_granted}
 use Rattle.table.proofs.Answers.{done_granted}
@@ -50,7 +50,7 @@ module _ (n : ℕ) (S : spanned n ≡ true) where
       narrow_keeps (mul binary64 (float i) q) ∙ bounded_no_nan (i * 1) (mul binary64 (float i) q) b
 
 -- What is filled holds no NaN. [passthrough::passthrough_table_impl]
-pub passthrough_no_nan : {o o' : List Float} → PassthroughPromise o Done.Yes o' → (i : ℕ) → i < length o'
+pub passthrough_no_nan : {o o' : List Float} → PassthroughPromise o (Ok tt) o' → (i : ℕ) → i < length o'
     → get_or o' i nan ≡ nan → ⊥
 passthrough_no_nan {o} {o'} p i h =
     let g : passthrough_verdict o ≡ granted = done_granted (passthrough_verdict o) p.number in

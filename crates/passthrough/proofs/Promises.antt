@@ -6,9 +6,10 @@ use mathlib.Core.List.{List}
 use Prim.Native.Nat.{ℕ, ◌-◌}
 use lib.ListN.{length}
 use lib.Ieee.{Float, binary64, mul, div, of_bits}
+use Rattle.std.specs.Prelude.{Result, Ok, Err}
 use Rattle.table.specs.Sizes.{spanned}
-use Rattle.table.specs.declared.Done.{Done}
 use Rattle.table.specs.declared.Refusal.TheVariants.{OutsideRange}
+use Rattle.table.specs.declared.Refusal.{Refusal}
 use Rattle.table.proofs.Answers.{same_done}
 use Rattle.ieee.specs.Range.{float}
 use Rattle.ieee.proofs.Tests.{bits_one}
@@ -27,14 +28,15 @@ passed_gives n i r p =
 module _ (o : List Float) where
   -- For fewer than 2 entries or more than 65,536, refusing with 12 and leaving the buffer keeps the promise.
   -- [passthrough::passthrough_table_impl]
-  pub passthrough_refused : spanned (length o) ≡ false → PassthroughPromise o (Done.Refused OutsideRange) o
+  pub passthrough_refused : spanned (length o) ≡ false → PassthroughPromise o (Err OutsideRange) o
   passthrough_refused f = record { number = simp f; after = simp f }
 
   -- For 2 to 65,536 entries the defined list keeps the promise. [passthrough::passthrough_table_impl]
   pub passthrough_granted : (p : List Float) → spanned (length o) ≡ true → p ≡ passed_through (length o)
-      → PassthroughPromise o Done.Yes p
+      → PassthroughPromise o (Ok tt) p
   passthrough_granted p h e = record { number = simp h; after = simp h e }
 
-pub passthrough_one : {o p q : List Float} {r s : Done} → PassthroughPromise o r p → PassthroughPromise o s q
+pub passthrough_one : {o p q : List Float} {r s : Result (Unit {0}) Refusal} → PassthroughPromise o r p
+    → PassthroughPromise o s q
     → (r ≡ s) × (p ≡ q)
 passthrough_one {o} {p} {q} {r} {s} a b = (same_done r s (a.number ∙ sym b.number), a.after ∙ sym b.after)

@@ -7,6 +7,7 @@ ghost use Rattle.power.specs.Inside.{NotBelowRoot};
 // What stands for 1 in a power: 65535 units of 65536 parts each.
 const FULL: u64 = 65535 * 65536;
 
+// Not std's isqrt: the edit each_step_slips is a slip of this guess, and its steps are what was measured.
 // A guess that is not below the whole root of v, and at most a sixteenth above √v: Newton's step from the power of two
 // next to √v, whose division is a shift.
 fn first_guess(v: u64) -> u64
@@ -50,15 +51,12 @@ pub fn power(base: u64, exponent: u64) -> u64
 {
     let mut a = FULL;
     let mut r = exponent;
-    let mut k: u64 = 16;
-    while 0 < k {
+    for _ in 0..16u64 {
         a = root_step(a, base, r);
-        r = r / 2;
-        k -= 1;
+        r /= 2;
     }
-    while 0 < r {
+    for _ in 0..r {
         a = a * base / FULL;
-        r -= 1;
     }
     a
 }

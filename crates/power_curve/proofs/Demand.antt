@@ -7,9 +7,10 @@ use native.Mathlib.Omega.{arith}
 use borrow.Author.Tests.{eq-eqb}
 use lib.Dec.{lit≤}
 use lib.ListN.{length, get_or}
+use Rattle.std.specs.Prelude.{Result, Ok}
 use Rattle.table.specs.Sizes.{sized, spanned}
 use Rattle.table.specs.Order.{nondecreasing, Nondecreasing}
-use Rattle.table.specs.declared.Done.{Done}
+use Rattle.table.specs.declared.Refusal.{Refusal}
 use Rattle.table.proofs.Sizes.{within_low, within_high, is_within}
 use Rattle.table.proofs.Order.{fact_test}
 use Rattle.table.proofs.Fill.{length_tabulated, get_or_tabulated, tabulated_same}
@@ -63,7 +64,7 @@ module _ (n p : ℕ) (size : spanned n ≡ true) where
       (value_rises p (ramp n i) (ramp n j) (ramp_rises n size i j ij) (omega (arith, ramp_fits n size j m)))
 
   -- Accept grants the table. [power_curve::power_table, power_curve::tag_power_table]
-  pub table_accepted : AcceptPromise (sitting_on (table_of p n)) Done.Yes (sitting_on (table_of p n))
+  pub table_accepted : AcceptPromise (sitting_on (table_of p n)) (Ok tt) (sitting_on (table_of p n))
   table_accepted =
       let l : length (table_of p n) ≡ n = length_tabulated (entry_at p n) n in
       let low = within_low 2 65536 n size in
@@ -74,7 +75,7 @@ module _ (n p : ℕ) (size : spanned n ≡ true) where
       record { number = simp (s, o); table = refl }
 
   module _ (out : List ℕ) (allowed : allowed_exponent p ≡ true) (l : length out ≡ n) where
-    known : (t : TableIn n p out) → (t.answer ≡ Done.Yes) × (t.table ≡ table_of p n)
+    known : (t : TableIn n p out) → (t.answer ≡ Ok tt) × (t.table ≡ table_of p n)
     known t = power_table_granted size allowed l t.kept
 
     -- It is granted, and has n entries, each the single value at its drive. [power_curve::power_table,
@@ -89,7 +90,7 @@ module _ (n p : ℕ) (size : spanned n ≡ true) where
           ∙ get_or_tabulated (entry_at p n) n i 0 h
           ∙ sym ((power_granted allowed v.kept).1 ∙ ap (value_at p) e);
       accepted = λ t.
-          subst (λ (u : List ℕ). AcceptPromise (sitting_on u) Done.Yes (sitting_on u)) (sym (known t).1) table_accepted;
+          subst (λ (u : List ℕ). AcceptPromise (sitting_on u) (Ok tt) (sitting_on u)) (sym (known t).1) table_accepted;
     }
 
 -- An exponent of 1.
@@ -101,7 +102,8 @@ straight_table n = tabulated_same (entry_at 65536 n) (ramp n) n (λ i h. value_b
 
 -- Of a gamma tag's entry 256 the curve is start on the same buffer, refused or not. [power_curve::power_table,
 -- power_curve::tag_power_table]
-pub straight_start : {out t : List ℕ} {r : Done} → PowerTablePromise out (length out) (exponent_of 256) r t →
+pub straight_start : {out t : List ℕ} {r : Result (Unit {0}) Refusal}
+    → PowerTablePromise out (length out) (exponent_of 256) r t →
     StartPromise (sitting_on out) r (sitting_on t)
 straight_start {out} {t} {r} a =
     let e = eq-eqb (length out) (length out) refl in

@@ -3,11 +3,10 @@
 use mathlib.Core.Path.{refl}
 use mathlib.Core.List.{[], ◌∷◌}
 use Prim.Native.Nat.{ℕ}
+use Rattle.std.specs.Prelude.{Ok, Err}
 use Rattle.table.specs.Sizes.{within}
 use Rattle.table.specs.Fill.{tabulated}
-use Rattle.table.specs.declared.Done.{Done}
 use Rattle.table.specs.declared.Drive.{Drive}
-use Rattle.table.specs.declared.Looked.{Looked}
 use Rattle.table.specs.declared.Refusal.{Refusal}
 use Rattle.table.specs.declared.Refusal.TheVariants.{TableLength, OutputLength, Exponent}
 use Rattle.curve.specs.Ramp.{ramp}
@@ -20,7 +19,7 @@ abbrev at : ℕ → Drive
 at x = record { 0 = x }
 
 abbrev Answers : ℕ → ℕ → ℕ → Type 0
-Answers x p n = PowerPromise (at x) p (Looked.At (record { 0 = n }))
+Answers x p n = PowerPromise (at x) p (Ok (record { 0 = n }))
 
 -- a gamma tag's 563, which is 2.2
 tag_of_2_2 : Answers 30000 (exponent_of 563) 11753
@@ -39,21 +38,21 @@ largest : Answers 65534 262144 65531
 unfolding within value_at power root_steps whole_steps factor root root_below or_one_more added
 largest = record { number = refl; value = refl }
 
-no_exponent : PowerPromise (at 1000) 0 (Looked.Refused Exponent)
+no_exponent : PowerPromise (at 1000) 0 (Err Exponent)
 unfolding within
 no_exponent = record { number = refl; value = refl }
 
-above_four : PowerPromise (at 65535) 262145 (Looked.Refused Exponent)
+above_four : PowerPromise (at 65535) 262145 (Err Exponent)
 unfolding within
 above_four = record { number = refl; value = refl }
 
-squares : PowerTablePromise (7 ∷ 7 ∷ 7 ∷ []) 3 131072 Done.Yes (0 ∷ 16384 ∷ 65535 ∷ [])
+squares : PowerTablePromise (7 ∷ 7 ∷ 7 ∷ []) 3 131072 (Ok tt) (0 ∷ 16384 ∷ 65535 ∷ [])
 unfolding within tabulated ramp value_at power root_steps whole_steps factor root root_below or_one_more added
 squares = record { number = refl; after = refl }
 
 -- 1 before 18, 18 before 6
 abbrev Refuses : ℕ → ℕ → Refusal → Type 0
-Refuses n p why = PowerTablePromise (7 ∷ 7 ∷ []) n p (Done.Refused why) (7 ∷ 7 ∷ [])
+Refuses n p why = PowerTablePromise (7 ∷ 7 ∷ []) n p (Err why) (7 ∷ 7 ∷ [])
 
 one_entry : Refuses 1 0 TableLength
 unfolding within

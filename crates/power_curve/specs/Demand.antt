@@ -1,10 +1,10 @@
 -- What document 02, (iv), asks of gamma curves, stated of any code that keeps the promises. Assumes nothing.
-use Rattle.std.specs.Prelude.{ℕ, ◌+◌, ◌-◌, ◌*◌, ◌^◌, ◌≤◌, ◌<◌, ◌≡◌, true, List, length, get_or}
+use Rattle.std.specs.Prelude.{ℕ, ◌+◌, ◌-◌, ◌*◌, ◌^◌, ◌≤◌, ◌<◌, ◌≡◌, true, List, length, get_or, Result, Ok}
 use Rattle.table.specs.Sizes.{within, spanned}
-use Rattle.table.specs.Answers.{number_of_looked, value_of_looked}
-use Rattle.table.specs.declared.Done.{Done}
+use Rattle.table.specs.Answers.{number_of_answer, value_of_looked}
 use Rattle.table.specs.declared.Drive.{Drive}
-use Rattle.table.specs.declared.Looked.{Looked}
+use Rattle.table.specs.declared.Density.{Density}
+use Rattle.table.specs.declared.Refusal.{Refusal}
 use Rattle.curve.specs.Ramp.{ramp}
 use Rattle.curve.specs.Promises.{sitting_on, StartPromise, AcceptPromise}
 use Rattle.power_curve.specs.Curve.{exponent_of}
@@ -18,7 +18,7 @@ pub record Near (N M p x n : ℕ) : Type 0 where
 -- a value with the exponent p: a 16-bit x, and any answer that keeps the promise there
 pub record PowerIn (p : ℕ) : Type 0 where
   pub drive : Drive
-  pub answer : Looked
+  pub answer : Result Density Refusal
   pub bits : drive.0 ≤ 65535
   pub kept : PowerPromise drive p answer
 
@@ -37,7 +37,7 @@ pub record PowerAt (p x : ℕ) : Type 0 where
 pub record ValuesObey (p : ℕ) : Type 0 where
   -- there is one at every x, and none is refused
   pub everywhere : (x : ℕ) → x ≤ 65535 → PowerAt p x
-  pub granted : (v : PowerIn p) → number_of_looked v.answer ≡ 0
+  pub granted : (v : PowerIn p) → number_of_answer v.answer ≡ 0
   -- it meets the bound
   pub near : (v : PowerIn p) → Near 65536 65535 p (x_of v) (sample_of v)
   -- it is 0 at 0 and 65535 at 65535, never falls as x rises, and is at most 65535
@@ -49,19 +49,19 @@ pub record ValuesObey (p : ℕ) : Type 0 where
 -- a table of n entries with the exponent p, asked for with the output `out`: any answer and later table that keep the
 -- promise
 pub record TableIn (n p : ℕ) (out : List ℕ) : Type 0 where
-  pub answer : Done
+  pub answer : Result (Unit {0}) Refusal
   pub table : List ℕ
   pub kept : PowerTablePromise out n p answer table
 
 pub record TablesObey (n p : ℕ) (out : List ℕ) : Type 0 where
   -- there is one, and none is refused
   pub somewhere : TableIn n p out
-  pub granted : (t : TableIn n p out) → t.answer ≡ Done.Yes
+  pub granted : (t : TableIn n p out) → t.answer ≡ Ok tt
   -- it has n entries, each the value at its entry of the start ramp, and accept grants it
   pub size : (t : TableIn n p out) → length t.table ≡ n
   pub entries : (t : TableIn n p out) (i : ℕ) → i < n → (v : PowerIn p) → x_of v ≡ ramp n i →
       get_or t.table i 0 ≡ sample_of v
-  pub accepted : (t : TableIn n p out) → AcceptPromise (sitting_on t.table) Done.Yes (sitting_on t.table)
+  pub accepted : (t : TableIn n p out) → AcceptPromise (sitting_on t.table) (Ok tt) (sitting_on t.table)
 
 pub record PowerDemand : Type 0 where
   pub values : (p : ℕ) → allowed_exponent p ≡ true → ValuesObey p
@@ -71,5 +71,6 @@ pub record PowerDemand : Type 0 where
   pub one : (v : PowerIn 65536) → sample_of v ≡ x_of v
   -- a gamma tag's entry may be 1 to 1,024, and one of 256 is start on the same buffer, refused or not
   pub entry : (k : ℕ) → allowed_exponent (exponent_of k) ≡ within 1 1024 k
-  pub straight : {out t : List ℕ} {r : Done} → PowerTablePromise out (length out) (exponent_of 256) r t →
+  pub straight : {out t : List ℕ} {r : Result (Unit {0}) Refusal}
+      → PowerTablePromise out (length out) (exponent_of 256) r t →
       StartPromise (sitting_on out) r (sitting_on t)

@@ -9,7 +9,8 @@ ghost use Rattle.power_curve.specs.Promises.{allowed_exponent, PowerPromise, Pow
 
 use curve::inside::ramp;
 use power::inside::power as power_of;
-use table::{Density, Done, Drive, Looked, Refusal, spanned, within};
+use table::inside::fill;
+use table::{Density, Drive, Refusal, spanned, within};
 
 // Whether a curve may have the exponent: above 0 and at most 4. Like every `exponent` here it counts 65536ths.
 fn allowed(exponent: u64) -> bool
@@ -41,49 +42,45 @@ fn fill_values(out: &mut [u16], exponent: u64)
     ensures { out.new ≡ table_of exponent (length out.old) }
 {
     let n = out.len();
-    let mut i = 0;
-    while i < n {
-        out[i] = value(ramp(n, i), exponent);
-        i += 1;
-    }
+    fill(out, |i| value(ramp(n, i), exponent));
 }
 
 // The curve's value at x: 65535·(x/65535)^(exponent/65536), to within one.
-pub fn power(x: Drive, exponent: u64) -> Looked
+pub fn power(x: Drive, exponent: u64) -> Result<Density, Refusal>
     ensures { PowerPromise x exponent result }
 {
     if !allowed(exponent) {
-        return Looked::Refused(Refusal::Exponent);
+        return Err(Refusal::Exponent);
     }
-    Looked::At(Density(value(x.0, exponent)))
+    Ok(Density(value(x.0, exponent)))
 }
 
 // Fills a buffer of n entries with the curve: entry i is the value at entry i of the straight curve of n entries.
-pub fn power_table(out: &mut [u16], n: usize, exponent: u64) -> Done
+pub fn power_table(out: &mut [u16], n: usize, exponent: u64) -> Result<(), Refusal>
     ensures { PowerTablePromise out.old n exponent result out.new }
 {
     if !spanned(n) {
-        return Done::Refused(Refusal::TableLength);
+        return Err(Refusal::TableLength);
     }
     if !allowed(exponent) {
-        return Done::Refused(Refusal::Exponent);
+        return Err(Refusal::Exponent);
     }
     if out.len() != n {
-        return Done::Refused(Refusal::OutputLength);
+        return Err(Refusal::OutputLength);
     }
     fill_values(out, exponent);
-    Done::Yes
+    Ok(())
 }
 
 // The value at x of the curve that a gamma tag's entry means, which counts 256ths.
-pub fn tag_power(x: Drive, gamma: u16) -> Looked
+pub fn tag_power(x: Drive, gamma: u16) -> Result<Density, Refusal>
     ensures { PowerPromise x (exponent_of gamma) result }
 {
     power(x, 256 * gamma as u64)
 }
 
 // Fills a buffer of n entries with the curve that a gamma tag's entry means.
-pub fn tag_power_table(out: &mut [u16], n: usize, gamma: u16) -> Done
+pub fn tag_power_table(out: &mut [u16], n: usize, gamma: u16) -> Result<(), Refusal>
     ensures { PowerTablePromise out.old n (exponent_of gamma) result out.new }
 {
     power_table(out, n, 256 * gamma as u64)

@@ -1,8 +1,10 @@
-// Floor and ceil. Not public: they have a precondition, that the number is from 0 to 65,536.
+// Floor and ceil. Not public: they have a precondition, that the number is from 0 to 65,536. It is no type's, since
+// each caller has a product of its own in hand, and a type would be made for one call and taken apart in it.
 ghost use Rattle.std.specs.Prelude.{T};
 ghost use Rattle.ieee.specs.Range.{upto};
 ghost use Rattle.rounding.specs.Cut.{FloorPromise, CeilPromise};
 
+// A function for each format: a trait over f32 and f64 would be longer than both.
 pub fn floor_f32(x: f32) -> usize
     requires { T (upto 65536 x) }
     ensures { FloorPromise x result }
@@ -14,11 +16,7 @@ pub fn ceil_f32(x: f32) -> usize
     requires { T (upto 65536 x) }
     ensures { CeilPromise x result }
 {
-    let floor = floor_f32(x);
-    if (floor as f32) < x {
-        return floor + 1;
-    }
-    floor
+    ceil_f64(x as f64)
 }
 
 pub fn floor_f64(x: f64) -> usize

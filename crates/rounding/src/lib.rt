@@ -1,5 +1,5 @@
-// Rounding that Rattle's `as` leaves to the program: f64 and fixed-point numbers to the nearest f32; floor, ceil, min
-// and abs. Floor and ceil, which have a precondition, stand in `inside`.
+// Rounding, by the Rust's rules: f64 and fixed-point numbers to the nearest f32; floor, ceil, min and abs. Floor and
+// ceil, which have a precondition, stand in `inside`.
 #![tactic(auto)]
 
 ghost use Rattle.std.specs.Prelude.{◌+◌, ◌/◌, ◌%◌, ◌<◌, ◌≤◌, ◌≡◌, Bool, cond};
@@ -11,6 +11,7 @@ ghost use Rattle.rounding.specs.Size.{MinPromise, AbsPromise};
 
 pub mod inside; // inside.rt: floor and ceil
 
+// Not std::num's rounding to f32: the edits narrow_.. are slips of the steps from here to nearest_f64_to_f32.
 // n / d to the nearest whole number, a tie to the even one. One test decides, so that no branch hangs on digits that
 // are as good as random.
 fn nearest_quotient(n: u64, d: u64) -> u64
@@ -108,7 +109,7 @@ pub fn s15_fixed16_number_to_float(x: i32) -> f32
     nearest_f64_to_f32((x as f64) / 65536.0)
 }
 
-// Rust's `x.min(bound)`.
+// Rust's `x.min(bound)`. Not std's own: that doesn't say which of two zeros it gives, and `minimum` in specs/Size does.
 pub fn min_f32(x: f32, bound: f32) -> f32
     ensures { MinPromise x bound result }
 {
@@ -121,21 +122,15 @@ pub fn min_f32(x: f32, bound: f32) -> f32
     x
 }
 
-// Rust's `x.abs()`. A difference turns -0.0 into 0.0, and a negation would turn 0.0 into -0.0.
+// Rust's `x.abs()`. A function for each format: a trait over both would be longer.
 pub fn abs_f32(x: f32) -> f32
     ensures { AbsPromise x result }
 {
-    if x <= 0.0f32 {
-        return 0.0f32 - x;
-    }
-    x
+    f32::abs(x)
 }
 
 pub fn abs_f64(x: f64) -> f64
     ensures { AbsPromise x result }
 {
-    if x <= 0.0f64 {
-        return 0.0f64 - x;
-    }
-    x
+    f64::abs(x)
 }

@@ -1,11 +1,11 @@
 -- What each call of this crate promises: when it is refused and by which number, and what the lent buffer holds after
 -- it. Assumes nothing.
-use Rattle.std.specs.Prelude.{ℕ, ◌≡◌, List, length, eqb}
+use Rattle.std.specs.Prelude.{ℕ, ◌≡◌, List, length, eqb, Result}
 use Rattle.table.specs.Sizes.{sized}
 use Rattle.table.specs.Refusals.{Verdict, granted, rung, number_in, if_granted}
-use Rattle.table.specs.Answers.{number_of_done}
-use Rattle.table.specs.declared.Done.{Done}
+use Rattle.table.specs.Answers.{number_of_answer}
 use Rattle.table.specs.declared.Refusal.TheVariants.{TableLength, OutputLength}
+use Rattle.table.specs.declared.Refusal.{Refusal}
 use Rattle.rows.specs.Rows.{row_of, baked_of}
 
 -- A row of lookups: refused for the table's length, 1; for an output that is not exactly as long as the positions, 6.
@@ -16,8 +16,8 @@ row_verdict t positions out =
     (rung (eqb (length out) (length positions)) OutputLength
     granted)
 
-pub record RowPromise (t positions out : List ℕ) (r : Done) (out' : List ℕ) : Type 0 where
-  pub number : number_of_done r ≡ number_in (row_verdict t positions out)
+pub record RowPromise (t positions out : List ℕ) (r : Result (Unit {0}) Refusal) (out' : List ℕ) : Type 0 where
+  pub number : number_of_answer r ≡ number_in (row_verdict t positions out)
   pub after : out' ≡ if_granted (row_verdict t positions out) (row_of t positions) out
 
 -- A table's baked form, the answers at every position: refused for the table's length, 1; for an output of other than
@@ -28,6 +28,6 @@ bake_verdict t out =
     (rung (eqb (length out) 65536) OutputLength
     granted)
 
-pub record BakePromise (t out : List ℕ) (r : Done) (out' : List ℕ) : Type 0 where
-  pub number : number_of_done r ≡ number_in (bake_verdict t out)
+pub record BakePromise (t out : List ℕ) (r : Result (Unit {0}) Refusal) (out' : List ℕ) : Type 0 where
+  pub number : number_of_answer r ≡ number_in (bake_verdict t out)
   pub after : out' ≡ if_granted (bake_verdict t out) (baked_of t) out

@@ -1,5 +1,6 @@
 -- A run of equal entries: what it is, the loop that counts it, and a table read from its end. Assumes nothing.
-use mathlib.Core.Path.{◌≡◌, ◌∙◌}
+use mathlib.Core.Path.{◌≡◌, ◌∙◌, refl, ap}
+use mathlib.Core.Bool.{Bool, true, false, cond}
 use mathlib.Core.Logic.{⊎_elim}
 use mathlib.Core.List.{List, [], ◌∷◌, reverse, reverse-cons}
 use Prim.Native.Nat.{ℕ, zero, suc, ◌+◌, ◌-◌, ◌≤◌, ◌<◌, zero-le}
@@ -9,6 +10,10 @@ use borrow.Author.Count.{below_more}
 use borrow.Author.Tests.{eq-eqb, ne_eqb}
 use lib.ListN.{length, get_or, length-reverse, get_or-append}
 use lib.Seq.{get_or_at}
+use Rattle.std.specs.Prelude.{◌==◌}
+use Rattle.std.specs.List.{take_while}
+use Rattle.std.proofs.lemmas.List.Sums.{take_while-cons}
+use Rattle.table.specs.Choice.{pick}
 use Rattle.table.specs.Runs.{run}
 use Rattle.table.proofs.Choice.{same?, below?}
 
@@ -65,6 +70,17 @@ module _ (y : ℕ) where
 
       long : run y l < i → i ≡ run y l
       long lt = absurd (run_stops l (omega arith) (e (run y l) lt))
+
+  -- A run is as long as what is taken from the list's front while it equals the number. [table]
+  pub run_taken : (l : List ℕ) → length (take_while (λ (x : ℕ). x == y) l) ≡ run y l
+  unfolding run
+  run_taken [] = refl
+  run_taken (x ∷ l) = rw (take_while-cons (λ (z : ℕ). z == y) x l) (step (x == y) (run_taken l))
+    where
+      step : (b : Bool) {n : ℕ} → length (take_while (λ (z : ℕ). z == y) l) ≡ n
+          → length (cond b (x ∷ take_while (λ (z : ℕ). z == y) l) []) ≡ pick b (suc n) 0
+      step true e = ap suc e
+      step false e = refl
 
 -- The invariant of a loop that counts a run: the i entries so far are y. A loop's proof needs these laws of it and
 -- nothing else.

@@ -23,69 +23,30 @@ pub struct Density(pub u16);
 // the order of their numbers. What each means stands once, as a sentence in `bg_refusal_text` of include/brassgroat.h.
 #[derive(Clone, Copy)]
 pub enum Refusal {
-    TableLength, // 1
-    NotNondecreasing, // 2
-    IndexBeyond, // 3
-    OutsideNeighbours, // 4
-    AboveLast, // 5
-    OutputLength, // 6
-    ParameterCount, // 7
-    TagLength, // 8
-    WrongSignature, // 9
-    ReservedNotZero, // 10
-    FunctionType, // 11
-    OutsideRange, // 12
-    OutsideUnit, // 13
-    LogFull, // 15
-    NothingToTakeBack, // 16
-    BadLog, // 17
-    Exponent, // 18
+    TableLength = 1,
+    NotNondecreasing = 2,
+    IndexBeyond = 3,
+    OutsideNeighbours = 4,
+    AboveLast = 5,
+    OutputLength = 6,
+    ParameterCount = 7,
+    TagLength = 8,
+    WrongSignature = 9,
+    ReservedNotZero = 10,
+    FunctionType = 11,
+    OutsideRange = 12,
+    OutsideUnit = 13,
+    LogFull = 15,
+    NothingToTakeBack = 16,
+    BadLog = 17,
+    Exponent = 18,
 }
 
-// The answer of a call that only does something.
-#[derive(Clone, Copy)]
-pub enum Done {
-    Yes,
-    Refused(Refusal),
-}
-
-// The answer of a call that gives a sample.
-#[derive(Clone, Copy)]
-pub enum Looked {
-    At(Density),
-    Refused(Refusal),
-}
-
-// The answer of a call that gives a position.
-#[derive(Clone, Copy)]
-pub enum Sought {
-    At(Drive),
-    Refused(Refusal),
-}
-
-// The documents' number of a refusal.
+// The documents' number of a refusal. By name, and no From: docs/PROMISES.md and `number_of` in specs/ have it so.
 pub fn number(why: Refusal) -> u32
     ensures { result ≡ number_of why }
 {
-    match why {
-        Refusal::TableLength => 1,
-        Refusal::NotNondecreasing => 2,
-        Refusal::IndexBeyond => 3,
-        Refusal::OutsideNeighbours => 4,
-        Refusal::AboveLast => 5,
-        Refusal::OutputLength => 6,
-        Refusal::ParameterCount => 7,
-        Refusal::TagLength => 8,
-        Refusal::WrongSignature => 9,
-        Refusal::ReservedNotZero => 10,
-        Refusal::FunctionType => 11,
-        Refusal::OutsideRange => 12,
-        Refusal::OutsideUnit => 13,
-        Refusal::LogFull => 15,
-        Refusal::NothingToTakeBack => 16,
-        Refusal::BadLog => 17,
-        Refusal::Exponent => 18,
-    }
+    why as u32
 }
 
 // Whether n is from low to high, both included.
@@ -120,15 +81,14 @@ pub fn not_above(n: usize) -> bool
 }
 
 // Whether no entry is below the one before it. All pairs are compared, and what came of it is tested once at the end:
-// without a way out of the loop the compiler compares eight pairs at a time.
+// without a way out of the loop the compiler compares eight pairs at a time. By an index: the edit
+// order_first_pair_skipped is a slip of where it begins.
 pub fn in_order(table: &[u16]) -> bool
     ensures { result ≡ nondecreasing table.now }
 {
     let mut fallen = false;
-    let mut i = 1;
-    while i < table.len() {
-        fallen = fallen | (table[i] < table[i - 1]);
-        i += 1;
+    for i in 1..table.len() {
+        fallen |= table[i] < table[i - 1];
     }
     !fallen
 }

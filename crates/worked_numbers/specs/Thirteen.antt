@@ -1,13 +1,10 @@
 -- Document 01's "Numbers on both sides", in its order: each is the answer that the public promise names. The laws
 -- `..-one` say that the promise names no other. Assumes nothing.
-use Rattle.std.specs.Prelude.{ℕ, [], ◌∷◌}
+use Rattle.std.specs.Prelude.{ℕ, [], ◌∷◌, Result, Ok, Err}
 use Rattle.table.specs.declared.Drive.{Drive}
 use Rattle.table.specs.declared.Density.{Density}
-use Rattle.table.specs.declared.Done.{Done}
-use Rattle.table.specs.declared.Looked.{Looked}
-use Rattle.table.specs.declared.Sought.{Sought}
 use Rattle.table.specs.declared.Refusal.TheVariants.{AboveLast}
-use Rattle.gamma.specs.declared.Coded.{Coded}
+use Rattle.table.specs.declared.Refusal.{Refusal}
 use Rattle.lookup.specs.Promises.{LookupPromise}
 use Rattle.gamma.specs.Promises.{GammaPromise}
 use Rattle.curve.specs.Promises.{sitting_on, StartPromise}
@@ -20,11 +17,11 @@ drive p = record { 0 = p }
 abbrev pub density : ℕ → Density
 density v = record { 0 = v }
 
-abbrev pub sample : ℕ → Looked
-sample v = Looked.At (density v)
+abbrev pub sample : ℕ → Result Density Refusal
+sample v = Ok (density v)
 
-abbrev pub position : ℕ → Sought
-position p = Sought.At (drive p)
+abbrev pub position : ℕ → Result Drive Refusal
+position p = Ok (drive p)
 
 pub record Thirteen : Type 0 where
   -- [0, 65535], position 12345: lookup 12345
@@ -46,10 +43,10 @@ pub record Thirteen : Type 0 where
   -- least input of 65534 is 65535
   pub case_9 : LeastPromise (0 ∷ 100 ∷ 65535 ∷ []) (density 65534) (position 65535)
   -- [10, 20]: least input of 21 is refusal 5
-  pub case_10 : LeastPromise (10 ∷ 20 ∷ []) (density 21) (Sought.Refused AboveLast)
+  pub case_10 : LeastPromise (10 ∷ 20 ∷ []) (density 21) (Err AboveLast)
   -- [65535, 65535]: lut_inverse_interp16 of 7 is 0
   pub case_11 : InversePromise (65535 ∷ 65535 ∷ []) (density 7) (position 0)
   -- [0, 65535], N = 2, depth 10, input 1: gamma lookup 1024
-  pub case_12 : GammaPromise (0 ∷ 65535 ∷ []) 2 10 1 (Coded.Value 1024)
+  pub case_12 : GammaPromise (0 ∷ 65535 ∷ []) 2 10 1 (Ok 1024)
   -- start with 3 entries, whatever they hold: 0, 32768, 65535
-  pub case_13 : (a b c : ℕ) → StartPromise (sitting_on (a ∷ b ∷ c ∷ [])) Done.Yes (sitting_on (0 ∷ 32768 ∷ 65535 ∷ []))
+  pub case_13 : (a b c : ℕ) → StartPromise (sitting_on (a ∷ b ∷ c ∷ [])) (Ok tt) (sitting_on (0 ∷ 32768 ∷ 65535 ∷ []))

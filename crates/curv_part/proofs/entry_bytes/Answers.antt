@@ -7,9 +7,9 @@ use Rattle.curv_part.proofs.entry_bytes.Goals as goal
 
 pub tag_length-end-requires : goal.tag_length-end-requires
 tag_length-end-requires c =
-    (granted_count c.args.tag.now _ c.in-Entries.ensures _ refl).few
+    (granted_count c.args.tag.now _ c.in-Ok.ensures _ refl).few
 
-pub slice_bounds-result-end-in-Entries : goal.slice_bounds-result-end-in-Entries
-slice_bounds-result-end-in-Entries c =
-    let g = granted_count c.args.tag.now _ c.in-Entries.ensures _ refl in
+pub slice_bounds-result-end-in-Ok : goal.slice_bounds-result-end-in-Ok
+slice_bounds-result-end-in-Ok c =
+    let g = granted_count c.args.tag.now _ c.in-Ok.ensures _ refl in
     omega arith

@@ -19,11 +19,11 @@ returns-then-table-eq0 c =
     linear_granted t c.args.x short r inside
     (empty_gives t c.args.x r c.if-table-eq0.true c.nearest_f64_to_f32.ensures)
 
-pub interp_wide-requires-clause-table_sized : goal.interp_wide-requires-clause-table_sized
-interp_wide-requires-clause-table_sized c =
+pub invariant_of-table : goal.invariant_of-table
+invariant_of-table c =
     let short : not_above (length c.args.table.now) ≡ true = holds c.not_above.ensures c.if-not-not_above.false-raw in
     let inside : outside_unit c.args.x ≡ false = sym c.outside_unit.ensures ∙ c.if-outside_unit.false in
-    not_empty c.args.table.now c.args.x short c.if-table-eq0.false
+    record { tested = not_empty c.args.table.now c.args.x short c.if-table-eq0.false }
 
 pub returns : goal.returns
 returns c =

@@ -1,15 +1,8 @@
--- `abs_f32` meets its promise: up to 0 the size is 0 - x, a difference that loses nothing; above 0 it is x. Assumes
--- nothing.
-use mathlib.Core.Path.{sym, subst}
-use lib.Dec.{T}
-use lib.Ieee.{binary32}
-use Rattle.rounding.proofs.Size.{abs_under, abs_over}
+-- `abs_f32` meets its promise: std's abs takes the sign away. Assumes nothing.
+use mathlib.Core.Path.{◌∙◌}
+use Rattle.rounding.proofs.Size.{abs_unsigned}
 use Rattle.rounding.proofs.abs_f32.Goals as goal
-
-pub returns-then-x : goal.returns-then-x
-returns-then-x c =
-    abs_under binary32 c.args.x (subst T (sym c.well_formed.0.1) tt) c.if-x.true
 
 pub returns : goal.returns
 returns c =
-    abs_over binary32 c.args.x c.if-x.false
+    record { value = c.abs.ensures.value ∙ abs_unsigned c.args.x }

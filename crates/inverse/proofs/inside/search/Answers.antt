@@ -3,28 +3,18 @@
 use mathlib.Core.Path.{◌∙◌, sym, subst}
 use Prim.Native.Nat.{ℕ, ◌<◌}
 use native.Mathlib.Omega.{arith}
-use Rattle.table.proofs.Sizes.{within_low, within_high}
 use Rattle.inverse.proofs.Bisection.{from_start, from_over, from_hit, from_left, from_right}
 use Rattle.inverse.proofs.Bisection.{probe_high, ready_left, ready_right}
 use Rattle.inverse.proofs.inside.search.Goals as goal
 
-pub overflow_sub-top : goal.overflow_sub-top
-overflow_sub-top c =
-    within_low 1 65536 _ c.requires.table_sized
-
 pub loop-r-init : goal.loop-r-init
 loop-r-init c =
-    (c.requires.ready, from_start _ _ _ _, omega arith)
-
-pub lookup_to-y-requires : goal.lookup_to-y-requires
-lookup_to-y-requires c =
-    let p = c.requires.table_sized in
-    omega (arith, within_low 1 65536 _ p, within_high 1 65536 _ p)
+    (c.requires, from_start _ _ _ _, omega arith)
 
 pub loop-r-preserved-then-v-y : goal.loop-r-preserved-then-v-y
 loop-r-preserved-then-v-y c =
     let i = c.loop-r.invariant in
-    let a = subst (λ (y : ℕ). c.args.v < y) c.lookup_to-y.ensures
+    let a = subst (λ (y : ℕ). c.args.v < y) c.lookup-y.ensures
     c.if-v-y.true in (
       ready_left _ _ _ _ i.0 c.if-r-l.false a,
       sym (from_left _ _ _ _ _ c.if-r-l.false a) ∙ i.1,
@@ -34,9 +24,9 @@ loop-r-preserved-then-v-y c =
 pub loop-r-preserved : goal.loop-r-preserved
 loop-r-preserved c =
     let i = c.loop-r.invariant in
-    let h : c.lookup_to-y.result < c.args.v =
+    let h : c.lookup-y.result < c.args.v =
     omega (arith, c.if-y-v.false, c.if-v-y.false) in
-    let b = subst (λ (y : ℕ). y < c.args.v) c.lookup_to-y.ensures h in (
+    let b = subst (λ (y : ℕ). y < c.args.v) c.lookup-y.ensures h in (
       ready_right _ _ _ _ i.0 c.if-r-l.false,
       sym (from_right _ _ _ _ _ c.if-r-l.false b) ∙ i.1,
       probe_high _ _ _ _ i.0 c.if-r-l.false,
@@ -48,5 +38,5 @@ returns-then-r-l c =
 
 pub returns-then-y-v : goal.returns-then-y-v
 returns-then-y-v c =
-    sym (from_hit _ _ _ _ _ c.if-r-l.false (sym c.lookup_to-y.ensures ∙ c.if-y-v.true))
+    sym (from_hit _ _ _ _ _ c.if-r-l.false (sym c.lookup-y.ensures ∙ c.if-y-v.true))
     ∙ c.loop-r.invariant.1

@@ -9,7 +9,8 @@ use Rattle.inverse.proofs.inside.search.Given as goal
 
 abbrev pub invariant-loop-r : goal.invariant-loop-r
 invariant-loop-r l =
-    Ready l.table l.v l.l l.r × (from l.table l.v l.l l.r l.x ≡ searched l.table l.v l.left l.right) × (l.x ≤ 65535)
+    let t = l.table.entries.now in
+    Ready t l.v l.l l.r × (from t l.v l.l l.r l.x ≡ searched t l.v l.left l.right) × (l.x ≤ 65535)
 
 abbrev pub decreases-loop-r : goal.decreases-loop-r
 decreases-loop-r l = l.r - l.l

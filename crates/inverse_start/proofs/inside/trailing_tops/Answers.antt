@@ -1,18 +1,19 @@
--- `trailing_tops` meets its contract: the loop counts the run of 65535 from the last entry back. Assumes nothing.
+-- `trailing_tops` meets its contract: what is taken from the end back is the run of 65535. Assumes nothing.
+use mathlib.Core.Path.{◌∙◌}
+use mathlib.Core.List.{reverse}
+use Rattle.std.specs.Prelude.{◌==◌}
+use Rattle.std.proofs.Common.{rules}
+use Rattle.std.proofs.lemmas.Iterator.Adapters.{YieldsList-from_rev_slice}
+use Rattle.std.proofs.lemmas.Iterator.Consumers.{count_from_yields_List}
+use Rattle.std.proofs.lemmas.Iterator.Search.{YieldsList-from_take_while}
+use Rattle.table.proofs.Runs.{run_taken}
 use Rattle.inverse_start.specs.Start.{trailing_tops}
-use Rattle.inverse_start.proofs.Runs.{back_more, back_stop, back_end}
 use Rattle.inverse_start.proofs.inside.trailing_tops.Goals as goal
-
-pub returns-then-table-w : goal.returns-then-table-w
-unfolding trailing_tops
-returns-then-table-w c =
-    back_stop c.args.table.now c.loop-w.invariant c.loop-w-test.true c.if-table-w.true
-
-pub loop-w-preserved : goal.loop-w-preserved
-loop-w-preserved c =
-    back_more c.args.table.now c.loop-w.invariant c.loop-w-test.true c.if-table-w.false
 
 pub returns : goal.returns
 unfolding trailing_tops
 returns c =
-    back_end c.args.table.now c.loop-w.invariant c.loop-w-test.false
+    count_from_yields_List _ _ c.count.ensures.ran
+    (YieldsList-from_take_while _ (λ x. x == 65535) (YieldsList-from_rev_slice c.args.table.now cc)
+    c.take_while.ensures.closure c.take_while.ensures.done (λ x b q k. search rules))
+    ∙ run_taken 65535 (reverse c.args.table.now)
