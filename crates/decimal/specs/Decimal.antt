@@ -9,11 +9,19 @@ use Rattle.decimal.specs.declared.Sum.{Sum}
 abbrev pub is_digit : ℕ → Bool
 is_digit byte = pick (ltb byte 48) false (leb byte 57)
 
--- n stands for the number x: below 2^64 it holds x itself, and else whether x is 2^64 or more
-pub record Stands (n : Natural) (x : ℕ) : Type 0 where
-  pub whole : n.past ≡ 0 → n.value ≡ x
-  pub edge : n.past ≡ 1 → x ≡ 18446744073709551616
-  pub above : 1 < n.past → 18446744073709551616 < x
+-- whether a number has a digit
+abbrev pub has_digit : Natural → Bool
+has_digit Natural.NoDigit = false
+has_digit (Natural.Exact v) = true
+has_digit Natural.Edge = true
+has_digit Natural.Above = true
+
+-- n stands for the number x: 0 without a digit; below 2^64 it holds x itself; else it says whether x is 2^64 or more
+abbrev pub Stands : Natural → ℕ → Type 0
+Stands Natural.NoDigit x = x ≡ 0
+Stands (Natural.Exact v) x = v ≡ x
+Stands Natural.Edge x = x ≡ 18446744073709551616
+Stands Natural.Above x = 18446744073709551616 < x
 
 -- r stands for n's number with one digit more,
 pub record GrowsBy (n : Natural) (digit : ℕ) (r : Natural) : Type 0 where
@@ -28,8 +36,8 @@ abbrev pub comes_to : ℕ → ℕ → Sum
 comes_to m x = pick (leb x m) (Sum.Suits x) (pick (eqb x (m + 1)) Sum.OneAbove Sum.Wrong)
 
 pub record Comes (n : Natural) (m : ℕ) (r : Sum) : Type 0 where
-  pub none : n.some ≡ false → r ≡ Sum.Wrong
-  pub some : n.some ≡ true → (x : ℕ) → Stands n x → r ≡ comes_to m x
+  pub none : has_digit n ≡ false → r ≡ Sum.Wrong
+  pub some : has_digit n ≡ true → (x : ℕ) → Stands n x → r ≡ comes_to m x
 
 -- the code of -x and of x among the numbers of 32 bits, which is 2^31 more
 abbrev pub code_of : Bool → ℕ → Sum
@@ -37,5 +45,5 @@ code_of true x = pick (leb x 2147483648) (Sum.Suits (2147483648 - x)) Sum.Wrong
 code_of false x = pick (ltb x 2147483648) (Sum.Suits (2147483648 + x)) (pick (eqb x 2147483648) Sum.OneAbove Sum.Wrong)
 
 pub record ComesCoded (n : Natural) (minus : Bool) (r : Sum) : Type 0 where
-  pub none : n.some ≡ false → r ≡ Sum.Wrong
-  pub some : n.some ≡ true → (x : ℕ) → Stands n x → r ≡ code_of minus x
+  pub none : has_digit n ≡ false → r ≡ Sum.Wrong
+  pub some : has_digit n ≡ true → (x : ℕ) → Stands n x → r ≡ code_of minus x

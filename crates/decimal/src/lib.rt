@@ -1,8 +1,9 @@
 // A decimal number as its digits come in, however many, and whether it is within its range.
 #![tactic(auto)]
 
-ghost use Rattle.std.specs.Prelude.{true, false, ◌≡◌, ◌+◌, ◌≤◌};
-ghost use Rattle.decimal.specs.Decimal.{is_digit, Stands, GrowsBy, Grows, Comes, ComesCoded};
+ghost use Rattle.std.specs.Prelude.{true, false, ◌≡◌, ◌+◌, ◌*◌, ◌≤◌};
+ghost use Rattle.decimal.specs.Decimal.{is_digit, has_digit, Stands, GrowsBy, Grows, comes_to, Comes, code_of};
+ghost use Rattle.decimal.specs.Decimal.{ComesCoded};
 
 const DIGIT_0: u16 = b'0' as u16;
 
@@ -14,7 +15,8 @@ const TENTH: u64 = 1844674407370955161;
 // How far a raw number of 32 bits is from its code, so that codes count up from 0.
 const HALF: u64 = 0x8000_0000;
 
-// What a number comes to in its place. In `A:B` the number B may be one above the largest of its place.
+// What a number comes to in its place. In `A:B` the number B may be one above the largest of its place: so OneAbove is
+// an answer there, and this no Result.
 #[derive(Clone, Copy)]
 pub enum Sum {
     Suits(u64),
@@ -22,33 +24,24 @@ pub enum Sum {
     Wrong,
 }
 
-// A number so far, with whether it has a digit: value; or 2^64 where `past` is 1; or more than that where it is 2.
+// A number so far.
 #[derive(Clone, Copy)]
-pub struct Natural {
-    value: u64,
-    past: u8,
-    some: bool,
+pub enum Natural {
+    // It has no digit yet.
+    NoDigit,
+    // It is this number, below 2^64.
+    Exact(u64),
+    // It is 2^64.
+    Edge,
+    // It is more than 2^64.
+    Above,
 }
 
 // No digit yet.
 pub fn none() -> Natural
-    ensures { (result.some ≡ false) × Stands result 0 }
+    ensures { (has_digit result ≡ false) × Stands result 0 }
 {
-    Natural {
-        value: 0,
-        past: 0,
-        some: false,
-    }
-}
-
-fn amount(value: u64, past: u8) -> Natural
-    ensures { (result.value ≡ value) × (result.past ≡ past) × (result.some ≡ true) }
-{
-    Natural {
-        value,
-        past,
-        some: true,
-    }
+    Natural::NoDigit
 }
 
 pub fn is_digit(byte: u16) -> bool
@@ -65,83 +58,109 @@ fn digit_value(byte: u16) -> u64
     ensures { (result ≤ 9) × (48 ≤ byte → byte ≤ 57 → byte ≡ 48 + result) }
 {
     match byte {
-        DIGIT_0..=DIGIT_9 => (byte - DIGIT_0) as u64,
+        DIGIT_0..=DIGIT_9 => u64::from(byte - DIGIT_0),
         _ => 0,
     }
 }
 
-fn grown_by(n: Natural, digit: u64) -> Natural
+// The number 10 * value + digit.
+fn grown_below(value: u64, digit: u64) -> Natural
     requires { digit ≤ 9 }
-    ensures { (result.some ≡ true) × GrowsBy n digit result }
+    ensures { (has_digit result ≡ true) × Stands result (value * 10 + digit) }
 {
-    if n.past > 0 {
-        return amount(0, 2);
+    if value < TENTH {
+        return Natural::Exact(value * 10 + digit);
     }
-    if n.value < TENTH {
-        return amount(n.value * 10 + digit, 0);
-    }
-    if n.value > TENTH {
-        return amount(0, 2);
+    if value > TENTH {
+        return Natural::Above;
     }
     if digit < 6 {
-        return amount(TENTH * 10 + digit, 0);
+        return Natural::Exact(TENTH * 10 + digit);
     }
     if digit == 6 {
-        return amount(0, 1);
+        return Natural::Edge;
     }
-    amount(0, 2)
+    Natural::Above
+}
+
+fn grown_by(n: Natural, digit: u64) -> Natural
+    requires { digit ≤ 9 }
+    ensures { (has_digit result ≡ true) × GrowsBy n digit result }
+{
+    match n {
+        Natural::NoDigit => Natural::Exact(digit),
+        Natural::Exact(value) => grown_below(value, digit),
+        Natural::Edge => Natural::Above,
+        Natural::Above => Natural::Above,
+    }
 }
 
 // With a digit more.
 pub fn grown(n: Natural, byte: u16) -> Natural
-    ensures { (result.some ≡ true) × Grows n byte result }
+    ensures { (has_digit result ≡ true) × Grows n byte result }
 {
     grown_by(n, digit_value(byte))
+}
+
+// A number below 2^64 in a place that has none below 0.
+fn placed(value: u64, largest: u64) -> Sum
+    ensures { result ≡ comes_to largest value }
+{
+    if value <= largest {
+        return Sum::Suits(value);
+    }
+    if value - 1 == largest {
+        return Sum::OneAbove;
+    }
+    Sum::Wrong
+}
+
+// The number 2^64 in such a place.
+fn placed_edge(largest: u64) -> Sum
+    ensures { result ≡ comes_to largest 18446744073709551616 }
+{
+    if largest == u64::MAX {
+        return Sum::OneAbove;
+    }
+    Sum::Wrong
 }
 
 // A number in a place that has none below 0.
 pub fn unsigned(n: Natural, largest: u64) -> Sum
     ensures { Comes n largest result }
 {
-    if !n.some {
+    match n {
+        Natural::NoDigit => Sum::Wrong,
+        Natural::Exact(value) => placed(value, largest),
+        Natural::Edge => placed_edge(largest),
+        Natural::Above => Sum::Wrong,
+    }
+}
+
+// The code of a raw number below 2^64.
+fn coded(value: u64, minus: bool) -> Sum
+    ensures { result ≡ code_of minus value }
+{
+    if value > HALF {
         return Sum::Wrong;
     }
-    if n.past > 1 {
-        return Sum::Wrong;
+    if minus {
+        return Sum::Suits(HALF - value);
     }
-    if n.past == 1 {
-        if largest == u64::MAX {
-            return Sum::OneAbove;
-        }
-        return Sum::Wrong;
-    }
-    if n.value <= largest {
-        return Sum::Suits(n.value);
-    }
-    if n.value - 1 == largest {
+    if value == HALF {
         return Sum::OneAbove;
     }
-    Sum::Wrong
+    Sum::Suits(HALF + value)
 }
 
 // The code of a raw number, whose size this is and before which a minus sign may have stood.
 pub fn signed(n: Natural, minus: bool) -> Sum
     ensures { ComesCoded n minus result }
 {
-    if !n.some {
-        return Sum::Wrong;
+    match n {
+        Natural::Exact(value) => coded(value, minus),
+        Natural::NoDigit => Sum::Wrong,
+        Natural::Edge => Sum::Wrong,
+        Natural::Above => Sum::Wrong,
     }
-    if n.past > 0 {
-        return Sum::Wrong;
-    }
-    if n.value > HALF {
-        return Sum::Wrong;
-    }
-    if minus {
-        return Sum::Suits(HALF - n.value);
-    }
-    if n.value == HALF {
-        return Sum::OneAbove;
-    }
-    Sum::Suits(HALF + n.value)
 }

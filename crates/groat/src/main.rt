@@ -6,110 +6,80 @@ mod refusals;
 mod starting;
 mod terminal;
 
-use groat_answers::{after_rows, before_rows};
-use groat_curves::PLACES;
-use groat_lines::{
-    Codes, INPUT_END, State, Streams, Tag, advance, ends_line, is_fine, next_line, pass_line,
-    put_byte, put_problem, read_name, settled, skip_spaces, streams_of,
-};
+use groat_answers::Kept;
+use groat_lines::{Bench, Now, Problem};
 use starting::{report, started};
-use terminal::{closed, put_hint, put_opening, put_prompt};
+use terminal::{close, put_hint, put_opening, put_prompt};
 
-const COMMENT: u16 = b'#' as u16;
-
-// Whether a line that begins so gets no answer: it is empty, or a comment.
-fn is_silent(now: u16) -> bool {
-    if now == COMMENT {
-        return true;
-    }
-    ends_line(now)
-}
-
-// Ends an answer. Nothing stands on the line of a request that ends the program.
-fn put_end(s: State, io: &mut Streams) -> State {
-    if s.over {
-        return s;
-    }
-    let told = put_problem(s, io);
-    put_hint(put_byte(told, io, b'\n'), io)
-}
-
-// At the next line. What was answered is written out before the rest of this line or the next one is waited for.
-fn turn(s: State, io: &mut Streams) -> State {
-    if s.over {
-        return s;
-    }
-    let end = pass_line(settled(s, io), io);
-    next_line(settled(put_prompt(end, io), io), io)
+// Whether a line that begins here gets no answer: it is empty, or a comment.
+fn is_silent(bench: &Bench) -> bool {
+    bench.is_at(b'#') || bench.ends_line()
 }
 
 // Answers the request that the line names, past the rows of all that there are.
-fn answer(
-    s: State,
-    io: &mut Streams,
-    codes: &mut Codes,
-    table: &mut [u16; 65537],
-    log: &mut [u64; PLACES],
-    floats: &mut [f32; 65537],
-    tag: &mut Tag,
-) -> State {
-    let mut here = groat_curves::answer(before_rows(s, io), io, codes, table, log, floats);
-    if here.met {
-        return here;
+fn answer(bench: &mut Bench, kept: &mut Kept) -> Result<(), Problem> {
+    bench.before_rows()?;
+    groat_curves::answer(bench, kept)?;
+    groat_tags::answer(bench, kept)?;
+    terminal::answer(bench)?;
+    bench.after_rows()
+}
+
+// Ends an answer. Nothing stands on the line of a request that ends the program.
+fn put_end(bench: &mut Bench, answered: Result<(), Problem>) {
+    if bench.is_over() {
+        return;
     }
-    here = groat_tags::answer(here, io, codes, table, tag);
-    if here.met {
-        return here;
+    if let Err(problem) = answered {
+        bench.put_problem(problem);
     }
-    here = terminal::answer(here, io);
-    if here.met {
-        return here;
+    bench.count_fault();
+    bench.put_byte(b'\n');
+    if answered.is_err() {
+        put_hint(bench);
     }
-    after_rows(here, io)
+}
+
+// At the next line. What was answered is written out before the rest of this line or the next one is waited for.
+fn turn(bench: &mut Bench) {
+    if bench.is_over() {
+        return;
+    }
+    bench.settle();
+    bench.pass_line();
+    put_prompt(bench);
+    bench.settle();
+    bench.next_line();
 }
 
 // One line, up to the first byte of the next. A line that a terminal has cut is wrong from its first byte on.
-fn line(
-    s: State,
-    io: &mut Streams,
-    codes: &mut Codes,
-    table: &mut [u16; 65537],
-    log: &mut [u64; PLACES],
-    floats: &mut [f32; 65537],
-    tag: &mut Tag,
-) -> State {
-    let start = skip_spaces(s, io);
-    if is_silent(start.now) && is_fine(start) {
-        return turn(start, io);
+fn line(bench: &mut Bench, kept: &mut Kept) {
+    bench.skip_spaces();
+    if !is_silent(bench) || !bench.is_fine() {
+        let answered = answer(bench, kept);
+        put_end(bench, answered);
     }
-    let named = read_name(start, io);
-    let answered = answer(named, io, codes, table, log, floats, tag);
-    turn(put_end(answered, io), io)
+    turn(bench);
 }
 
-// A proved loop has to end, and nothing says that the input does. So it counts its turns down from a number that no
-// run uses up.
+// Whether no further line is to be answered.
+fn is_done(bench: &Bench) -> bool {
+    bench.now() == Now::InputEnd || bench.is_broken() || bench.is_over()
+}
+
+// A proved loop has to end, and nothing says that the input does: no run uses up as many lines as are counted here.
 fn main(rt: HostRuntime) {
-    let mut io = streams_of(rt);
-    let mut codes = [0u64; 65537];
-    let mut table = [0u16; 65537];
-    let mut log = [0u64; PLACES];
-    let mut floats = [0.0f32; 65537];
-    let mut tag = [0u8; 131200];
-    let opening = settled(put_opening(started(&rt), &mut io), &io);
-    let mut s = advance(opening, &mut io);
-    let mut turns = u64::MAX;
-    while turns > 0 && s.now != INPUT_END && !s.broken && !s.over {
-        s = line(
-            s,
-            &mut io,
-            &mut codes,
-            &mut table,
-            &mut log,
-            &mut floats,
-            &mut tag,
-        );
-        turns -= 1;
+    let mut kept = Kept::new();
+    let mut bench = started(rt);
+    put_opening(&mut bench);
+    bench.settle();
+    bench.advance();
+    for _ in 0..u64::MAX {
+        if is_done(&bench) {
+            break;
+        }
+        line(&mut bench, &mut kept);
     }
-    report(closed(s, &mut io), &rt);
+    close(&mut bench);
+    report(&bench, &rt);
 }

@@ -1,106 +1,77 @@
 // The program at a terminal, where a person types the requests and reads the answers: an opening line, a prompt, a hint
 // after an error, and requests that no other caller has. To a program at the other end of a pipe none of this is said.
-use crate::refusals::put_meaning;
-use groat_answers::at_row;
-use groat_lines::{
-    INPUT_END, Place, State, Streams, flush, is_fine, last_number, put, put_byte, put_decimal,
-};
+use crate::refusals::meaning;
+use groat_lines::{Bench, Now, Place, Problem};
 use plain_answers::version;
 
-fn wide(x: u32) -> u64 {
-    x as u64
-}
-
 // The library's version, as three numbers.
-fn put_version(s: State, io: &mut Streams) -> State {
-    let v = wide(version());
-    let mut here = put_decimal(s, io, v / 10000);
-    here = put_byte(here, io, b'.');
-    here = put_decimal(here, io, v / 100 % 100);
-    here = put_byte(here, io, b'.');
-    put_decimal(here, io, v % 100)
+fn put_version(bench: &mut Bench) {
+    let version = u64::from(version());
+    bench.put_decimal(version / 10000);
+    bench.put_byte(b'.');
+    bench.put_decimal(version / 100 % 100);
+    bench.put_byte(b'.');
+    bench.put_decimal(version % 100);
 }
 
 // Before a line that is to be waited for.
-pub fn put_prompt(s: State, io: &mut Streams) -> State {
-    if s.prompts && s.now != INPUT_END {
-        return put(s, io, b"> ");
+pub fn put_prompt(bench: &mut Bench) {
+    if bench.prompts() && bench.now() != Now::InputEnd {
+        bench.put(b"> ");
     }
-    s
 }
 
 // Before the first line.
-pub fn put_opening(s: State, io: &mut Streams) -> State {
-    if !s.prompts {
-        return s;
+pub fn put_opening(bench: &mut Bench) {
+    if bench.prompts() {
+        bench.put(b"groat ");
+        put_version(bench);
+        bench.put(b": help lists the requests, quit ends\n");
+        put_prompt(bench);
     }
-    let mut here = put(s, io, b"groat ");
-    here = put_version(here, io);
-    here = put(here, io, b": help lists the requests, quit ends\n");
-    put_prompt(here, io)
 }
 
 // After a line that could not be read.
-pub fn put_hint(s: State, io: &mut Streams) -> State {
-    if s.prompts && !is_fine(s) {
-        return put(
-            s,
-            io,
-            b"type help for the requests, or help WORD for one of them\n",
-        );
+pub fn put_hint(bench: &mut Bench) {
+    if bench.prompts() {
+        bench.put(b"type help for the requests, or help WORD for one of them\n");
     }
-    s
 }
 
 // After the last line, with all that was answered written out. Where the input ended at a prompt, the line of that
 // prompt ends too.
-pub fn closed(s: State, io: &mut Streams) -> State {
-    if s.prompts && !s.over {
-        let here = put_byte(s, io, b'\n');
-        return flush(here, io);
+pub fn close(bench: &mut Bench) {
+    if bench.prompts() && !bench.is_over() {
+        bench.put_byte(b'\n');
     }
-    flush(s, io)
+    bench.flush();
 }
 
-fn ended(s: State) -> State {
-    let mut after = s;
-    after.over = true;
-    after
+fn explain(bench: &mut Bench) -> Result<(), Problem> {
+    let refusal = bench.last_number(Place::Any)?;
+    bench.put(meaning(refusal).as_bytes());
+    Ok(())
 }
 
-fn explain(s: State, io: &mut Streams) -> State {
-    let here = last_number(s, io, Place::Any);
-    if !is_fine(here) {
-        return here;
-    }
-    put_meaning(here, io, here.got)
-}
-
-fn person_answer(s: State, io: &mut Streams) -> State {
-    let mut here = at_row(
-        s,
-        io,
+fn answer_person(bench: &mut Bench) -> Result<(), Problem> {
+    if bench.at_row(
         b"why N: what refusal N means",
         b"words: N below 2^64\nanswer: a sentence",
-    );
-    if here.met {
-        return explain(here, io);
+    )? {
+        return explain(bench);
     }
-    here = at_row(here, io, b"quit: end", b"answer: none");
-    if here.met {
-        return ended(here);
+    if bench.at_row(b"quit: end", b"answer: none")?
+        || bench.at_row(b"exit: end", b"answer: none")?
+    {
+        bench.end();
     }
-    here = at_row(here, io, b"exit: end", b"answer: none");
-    if here.met {
-        return ended(here);
-    }
-    here
+    Ok(())
 }
 
 // Answers the line where it names one of a person's requests.
-pub fn answer(s: State, io: &mut Streams) -> State {
-    if s.prompts {
-        return person_answer(s, io);
+pub fn answer(bench: &mut Bench) -> Result<(), Problem> {
+    if bench.prompts() {
+        return answer_person(bench);
     }
-    s
+    Ok(())
 }

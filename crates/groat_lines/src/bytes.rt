@@ -1,56 +1,51 @@
 // Bytes, as pairs of hexadecimal digits, or `-` for none.
-use crate::numbers::{MINUS, bad, hex_value, with_got};
-use crate::problems::{TOO_MANY_BYTES, wrong};
-use crate::streams::{State, Streams, advance};
-use crate::words::{ends_word, next_word, no_more_words};
+use crate::first;
+use crate::problems::Problem;
+use crate::streams::Bench;
 
 // As many bytes as a tag may have that is kept: some more than the longest that is read or written.
 pub type Tag = [u8; 131200];
 
 // The byte that holds digit n of a row of bytes, with that digit put in, where there is room for it. The first of a
-// byte's two digits is the upper.
-fn keep_digit(bytes: &mut Tag, n: u64, digit: u64) {
-    let at = n / 2;
-    if at < 131200 {
-        let before = bytes[at as usize];
-        bytes[at as usize] = (before << 4) | (digit % 16) as u8;
+// byte's two digits is the upper. No ArrayVec: digits past its end are counted too, so that a tag too long is told.
+fn keep_digit(bytes: &mut Tag, n: usize, digit: u8) {
+    if let Some(byte) = bytes.get_mut(n / 2) {
+        *byte = (*byte << 4) | digit;
     }
 }
 
-// The digits from here on, of which the state says how many there were.
-fn read_digits(s: State, io: &mut Streams, bytes: &mut Tag) -> State {
-    let mut here = s;
-    let mut n: u64 = 0;
-    while n < u64::MAX && hex_value(here.now) < 16 {
-        keep_digit(bytes, n, hex_value(here.now));
-        here = advance(here, io);
-        n += 1;
+impl Bench {
+    // The digits from here on, put into a lent buffer, and how many there were.
+    fn read_digits(&mut self, room: &mut Tag) -> usize {
+        let mut n: usize = 0;
+        for _ in 0..u64::MAX {
+            let Some(digit) = self.hex_digit() else {
+                break;
+            };
+            keep_digit(room, n, digit);
+            n = n.saturating_add(1);
+            self.advance();
+        }
+        n
     }
-    with_got(here, n)
-}
 
-// After so many digits as the state says: half as many bytes.
-fn paired(s: State) -> State {
-    let digits = s.got;
-    if digits > 2 * 131200 {
-        return wrong(s, TOO_MANY_BYTES);
+    // The last word of the line as bytes, which are put into a lent buffer. A minus sign has no digits after it.
+    pub fn last_bytes<'a>(&mut self, room: &'a mut Tag) -> Result<&'a [u8], Problem> {
+        self.next_word()?;
+        let mut digits = 0;
+        if self.is_at(b'-') {
+            self.advance();
+        } else {
+            digits = self.read_digits(room);
+        }
+        self.checked()?;
+        if digits > 2 * 131200 {
+            return Err(Problem::TooManyBytes);
+        }
+        if !self.ends_word() || digits % 2 == 1 {
+            return Err(Problem::BadNumber);
+        }
+        self.no_more_words()?;
+        Ok(first(room, digits / 2))
     }
-    if !ends_word(s.now) || digits % 2 == 1 {
-        return bad(s);
-    }
-    with_got(s, digits / 2)
-}
-
-// The next word of the line as bytes, which are put into a lent buffer. A minus sign has no digits after it.
-fn read_bytes(s: State, io: &mut Streams, bytes: &mut Tag) -> State {
-    let start = next_word(s, io);
-    if start.now == MINUS {
-        return paired(with_got(advance(start, io), 0));
-    }
-    paired(read_digits(start, io, bytes))
-}
-
-// The last word of the line as bytes.
-pub fn last_bytes(s: State, io: &mut Streams, bytes: &mut Tag) -> State {
-    no_more_words(read_bytes(s, io, bytes), io)
 }

@@ -1,5 +1,5 @@
 // What a code stands for. Every number of a line is read as a code of 64 bits. The codes of one kind of number count up
-// from 0.
+// from 0. No conversion of std's has their offset and their patterns.
 use patterns::{double_of, float_of};
 
 // The number of a code that suits a place of 16 bits: nothing is cut.

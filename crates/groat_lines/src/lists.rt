@@ -1,18 +1,21 @@
 // Lists: `V`, `V*K` and `A:B`, or a log's records, separated by commas; or `-` for none.
-use crate::numbers::{
-    COLON, MINUS, Place, ReadSum, bad, is_decimal, largest, read_negative, read_sum, with_got,
-};
-use crate::problems::{TOO_MANY_ITEMS, is_fine, wrong};
-use crate::streams::{State, Streams, advance, at_hand};
-use crate::words::{ends_word, next_word, no_more_words};
+use crate::first;
+use crate::numbers::Place;
+use crate::problems::Problem;
+use crate::streams::Bench;
 use decimal::Sum;
 
 // The codes of a list that the program holds: at most one more than a table may have.
 pub type Codes = [u64; 65537];
 
-const COMMA: u16 = b',' as u16;
-
-const TIMES: u16 = b'*' as u16;
+// Values that are left of an item that was read: `value` comes next, and then `more` others, each `step` above the one
+// before it.
+#[derive(Clone, Copy)]
+struct Run {
+    value: u64,
+    step: u64,
+    more: u64,
+}
 
 // How far a list has been read.
 #[derive(Clone, Copy)]
@@ -21,283 +24,262 @@ enum Stage {
     Item,
     // the rest of an item, of which the minus sign has been read
     Negative,
-    // values of the item that was read are left
-    Run,
-    // none are: a comma or the list's end comes next
+    // values of the item that was read
+    Run(Run),
+    // none are left of it: a comma or the list's end comes next
     Past,
-    // at its end, or at what is wrong with it
+    // at its end
     Ended,
+    // at what is wrong with it
+    Failed(Problem),
 }
 
-// A list that is being read. In a run `value` comes next, and then `more` others, each `step` above the one before it.
+// A list that is being read.
 #[derive(Clone, Copy)]
 pub struct List {
+    place: Place,
     stage: Stage,
-    value: u64,
-    step: u64,
-    more: u64,
 }
 
-// A list, with where the program stands.
-#[derive(Clone, Copy)]
-pub struct Opened {
-    pub s: State,
-    pub list: List,
-}
-
-fn staged(stage: Stage) -> List {
-    List {
-        stage,
-        value: 0,
-        step: 0,
-        more: 0,
+impl Run {
+    fn once(value: u64) -> Run {
+        Run {
+            value,
+            step: 0,
+            more: 0,
+        }
     }
-}
 
-fn run(value: u64, step: u64, more: u64) -> List {
-    List {
-        stage: Stage::Run,
-        value,
-        step,
-        more,
+    // With its first value taken.
+    fn shortened(self) -> Stage {
+        if self.more == 0 {
+            return Stage::Past;
+        }
+        Stage::Run(Run {
+            value: self.value.wrapping_add(self.step),
+            step: self.step,
+            more: self.more - 1,
+        })
     }
-}
-
-fn at_stage(s: State, stage: Stage) -> Opened {
-    Opened {
-        s,
-        list: staged(stage),
-    }
-}
-
-fn failed(s: State) -> Opened {
-    at_stage(bad(s), Stage::Ended)
-}
-
-// After a minus sign, which is a list of no items or begins the first item.
-fn after_minus(s: State) -> Opened {
-    if ends_word(s.now) {
-        return at_stage(s, Stage::Ended);
-    }
-    at_stage(s, Stage::Negative)
-}
-
-// The next word of the line as a list of which nothing is read yet.
-pub fn open_list(s: State, io: &mut Streams) -> Opened {
-    let start = next_word(s, io);
-    if !is_fine(start) {
-        return at_stage(start, Stage::Ended);
-    }
-    if start.now == MINUS {
-        return after_minus(advance(start, io));
-    }
-    at_stage(start, Stage::Item)
-}
-
-fn ends_item(now: u16) -> bool {
-    if now == COMMA {
-        return true;
-    }
-    ends_word(now)
-}
-
-// An item counts only where it is whole.
-fn closed(s: State, list: List) -> Opened {
-    if ends_item(s.now) {
-        return Opened { s, list };
-    }
-    failed(s)
 }
 
 // `V*K`.
-fn repeated(s: State, value: u64, times: Sum) -> Opened {
+fn repeated(value: u64, times: Sum) -> Option<Stage> {
     match times {
-        Sum::Suits(k) => {
-            if k == 0 {
-                return closed(s, staged(Stage::Past));
-            }
-            closed(s, run(value, 0, k - 1))
-        }
-        Sum::OneAbove | Sum::Wrong => failed(s),
+        Sum::Suits(0) => Some(Stage::Past),
+        Sum::Suits(k) => Some(Stage::Run(Run {
+            value,
+            step: 0,
+            more: k - 1,
+        })),
+        Sum::OneAbove | Sum::Wrong => None,
     }
+}
+
+fn counted_up(from: u64, more: u64) -> Stage {
+    Stage::Run(Run {
+        value: from,
+        step: 1,
+        more,
+    })
 }
 
 // `A:B`. One above the largest B leaves all from A on, and A is no larger than that.
-fn counted_up(s: State, place: Place, from: u64, end: Sum) -> Opened {
+fn ranged(place: Place, from: u64, end: Sum) -> Option<Stage> {
     match end {
-        Sum::Suits(to) => {
-            if to <= from {
-                return closed(s, staged(Stage::Past));
+        Sum::Suits(to) if to <= from => Some(Stage::Past),
+        Sum::Suits(to) => Some(counted_up(from, to - from - 1)),
+        Sum::OneAbove => Some(counted_up(from, place.largest().wrapping_sub(from))),
+        Sum::Wrong => None,
+    }
+}
+
+impl Bench {
+    // The next word of the line as a list of which nothing is read yet. A minus sign is a list of no items, or begins
+    // the first.
+    pub fn open_list(&mut self, place: Place) -> Result<List, Problem> {
+        self.next_word()?;
+        if !self.is_at(b'-') {
+            return Ok(List {
+                place,
+                stage: Stage::Item,
+            });
+        }
+        self.advance();
+        if self.ends_word() {
+            return Ok(List {
+                place,
+                stage: Stage::Ended,
+            });
+        }
+        Ok(List {
+            place,
+            stage: Stage::Negative,
+        })
+    }
+
+    // What is wrong with an item, unless something was wrong with the input before it.
+    fn bad_item(&self) -> Stage {
+        Stage::Failed(self.problem.unwrap_or(Problem::BadNumber))
+    }
+
+    // The rest of an item after its first number, of which a record has none.
+    fn after_first(&mut self, place: Place, value: u64) -> Option<Stage> {
+        if place != Place::Record && self.is_at(b'*') {
+            self.advance();
+            return repeated(value, self.read_sum(Place::Any));
+        }
+        if place.is_decimal() && self.is_at(b':') {
+            self.advance();
+            return ranged(place, value, self.read_sum(place));
+        }
+        Some(Stage::Run(Run::once(value)))
+    }
+
+    fn read_rest(&mut self, place: Place, number: Sum) -> Option<Stage> {
+        match number {
+            Sum::Suits(value) => self.after_first(place, value),
+            Sum::OneAbove | Sum::Wrong => None,
+        }
+    }
+
+    // After an item's number. An item counts only where it is whole.
+    fn read_item(&mut self, place: Place, number: Sum) -> Stage {
+        match self.read_rest(place, number) {
+            Some(stage) if self.is_at(b',') || self.ends_word() => stage,
+            _ => self.bad_item(),
+        }
+    }
+
+    // At the next item, or at the list's end.
+    fn after_item(&mut self) -> Stage {
+        if self.is_at(b',') {
+            self.advance();
+            return Stage::Item;
+        }
+        Stage::Ended
+    }
+
+    // One step on.
+    fn next_stage(&mut self, place: Place, stage: Stage) -> Stage {
+        match stage {
+            Stage::Item => {
+                let number = self.read_sum(place);
+                self.read_item(place, number)
             }
-            closed(s, run(from, 1, to - from - 1))
+            Stage::Negative => {
+                let number = self.read_negative(place);
+                self.read_item(place, number)
+            }
+            Stage::Run(run) => run.shortened(),
+            Stage::Past => self.after_item(),
+            Stage::Ended | Stage::Failed(_) => stage,
         }
-        Sum::OneAbove => closed(
-            s,
-            run(from, 1, std::num::wrapping_sub_u64(largest(place), from)),
-        ),
-        Sum::Wrong => failed(s),
+    }
+
+    // The next word of the line as a list of at most so many items, whose codes are put into a lent buffer.
+    fn read_at_most<'a>(
+        &mut self,
+        place: Place,
+        room: &'a mut Codes,
+        most: usize,
+    ) -> Result<&'a [u64], Problem> {
+        let mut list = self.open_list(place)?;
+        let n = list.fill(self, room, most.saturating_add(1), false);
+        list.checked()?;
+        self.checked()?;
+        if n > most {
+            return Err(Problem::TooManyItems);
+        }
+        Ok(first(room, n))
+    }
+
+    // The same with as many items as the buffer holds.
+    pub fn read_items<'a>(
+        &mut self,
+        place: Place,
+        room: &'a mut Codes,
+    ) -> Result<&'a [u64], Problem> {
+        self.read_at_most(place, room, 65537)
+    }
+
+    // The last word of the line as such a list.
+    pub fn last_items<'a>(
+        &mut self,
+        place: Place,
+        room: &'a mut Codes,
+    ) -> Result<&'a [u64], Problem> {
+        let items = self.read_items(place, room)?;
+        self.no_more_words()?;
+        Ok(items)
+    }
+
+    // The last word of the line as a log's records, at most so many.
+    pub fn last_records<'a>(
+        &mut self,
+        room: &'a mut Codes,
+        most: usize,
+    ) -> Result<&'a [u64], Problem> {
+        let records = self.read_at_most(Place::Record, room, most)?;
+        self.no_more_words()?;
+        Ok(records)
     }
 }
 
-fn read_times(s: State, io: &mut Streams, value: u64) -> Opened {
-    let read = read_sum(s, io, Place::Any);
-    let after = read.s;
-    let times = read.sum;
-    repeated(after, value, times)
-}
-
-fn read_end(s: State, io: &mut Streams, place: Place, from: u64) -> Opened {
-    let read = read_sum(s, io, place);
-    let after = read.s;
-    let end = read.sum;
-    counted_up(after, place, from, end)
-}
-
-// The rest of an item after its first number. A record has none.
-fn after_first(s: State, io: &mut Streams, place: Place, first: u64) -> Opened {
-    if let Place::Record = place {
-        return closed(s, run(first, 0, 0));
+impl List {
+    // Whether there is more of it to be read.
+    pub fn goes_on(&self) -> bool {
+        match self.stage {
+            Stage::Item | Stage::Negative | Stage::Run(_) | Stage::Past => true,
+            Stage::Ended | Stage::Failed(_) => false,
+        }
     }
-    if s.now == TIMES {
-        return read_times(advance(s, io), io, first);
-    }
-    if s.now == COLON && is_decimal(place) {
-        return read_end(advance(s, io), io, place, first);
-    }
-    closed(s, run(first, 0, 0))
-}
 
-fn read_rest(read: ReadSum, io: &mut Streams, place: Place) -> Opened {
-    let after = read.s;
-    let sum = read.sum;
-    match sum {
-        Sum::Suits(value) => after_first(after, io, place, value),
-        Sum::OneAbove | Sum::Wrong => failed(after),
+    // What is wrong with it, as far as it has been read.
+    pub fn checked(&self) -> Result<(), Problem> {
+        match self.stage {
+            Stage::Failed(problem) => Err(problem),
+            _ => Ok(()),
+        }
     }
-}
 
-// At the next item, or at the list's end.
-fn after_item(s: State, io: &mut Streams) -> Opened {
-    if s.now == COMMA {
-        return at_stage(advance(s, io), Stage::Item);
+    // Whether what comes next may have to be waited for, with n values at hand.
+    fn waits(&self, bench: &Bench, n: usize) -> bool {
+        match self.stage {
+            Stage::Item | Stage::Negative | Stage::Past => n > 0 && !bench.is_at_hand(),
+            Stage::Run(_) | Stage::Ended | Stage::Failed(_) => false,
+        }
     }
-    at_stage(s, Stage::Ended)
-}
 
-// A run with its first value taken.
-fn shortened(list: List) -> List {
-    if list.more == 0 {
-        return staged(Stage::Past);
-    }
-    run(
-        std::num::wrapping_add_u64(list.value, list.step),
-        list.step,
-        list.more - 1,
-    )
-}
-
-// One step on.
-fn step(list: List, s: State, io: &mut Streams, place: Place) -> Opened {
-    let stage = list.stage;
-    match stage {
-        Stage::Item => read_rest(read_sum(s, io, place), io, place),
-        Stage::Negative => read_rest(read_negative(s, io, place), io, place),
-        Stage::Run => Opened {
-            s,
-            list: shortened(list),
-        },
-        Stage::Past => after_item(s, io),
-        Stage::Ended => Opened { s, list },
-    }
-}
-
-pub fn goes_on(list: List) -> bool {
-    let stage = list.stage;
-    match stage {
-        Stage::Item | Stage::Negative | Stage::Run | Stage::Past => true,
-        Stage::Ended => false,
-    }
-}
-
-// With the run's next value kept, where the list is in a run; one past the buffer's end is only counted.
-fn kept(codes: &mut Codes, n: u64, list: List) -> u64 {
-    let stage = list.stage;
-    if let Stage::Run = stage {
+    // With the run's next value put into a lent buffer after n others, where the list is in a run; one past the
+    // buffer's end is only counted.
+    fn keep(&self, codes: &mut Codes, n: usize) -> usize {
+        let Stage::Run(run) = self.stage else {
+            return n;
+        };
         if n < 65537 {
-            codes[n as usize] = list.value;
+            codes[n] = run.value;
         }
-        return std::num::wrapping_add_u64(n, 1);
+        n.saturating_add(1)
     }
-    n
-}
 
-// Whether what comes next in the list may have to be waited for, with values at hand.
-fn waits(list: List, s: State, n: u64) -> bool {
-    let stage = list.stage;
-    match stage {
-        Stage::Item | Stage::Negative | Stage::Past => n > 0 && !at_hand(s),
-        Stage::Run | Stage::Ended => false,
+    // Reads on until there are `most` values, or the list ends or fails, and gives how many there are; a `prompt`
+    // reader, which answers what there is, does not wait for more input either.
+    pub fn fill(
+        &mut self,
+        bench: &mut Bench,
+        codes: &mut Codes,
+        most: usize,
+        prompt: bool,
+    ) -> usize {
+        let mut n: usize = 0;
+        for _ in 0..u64::MAX {
+            if n >= most || !self.goes_on() || (prompt && self.waits(bench, n)) {
+                break;
+            }
+            n = self.keep(codes, n);
+            self.stage = bench.next_stage(self.place, self.stage);
+        }
+        n
     }
-}
-
-// Reads on until there are `room` values, or the list ends or fails; a `prompt` reader, which answers what there is,
-// does not wait for more input either.
-pub fn fill(
-    from: List,
-    s: State,
-    io: &mut Streams,
-    place: Place,
-    codes: &mut Codes,
-    room: u64,
-    prompt: bool,
-) -> Opened {
-    let mut list = from;
-    let mut here = s;
-    let mut n: u64 = 0;
-    let mut turns = u64::MAX;
-    while turns > 0 && n < room && goes_on(list) && !(prompt && waits(list, here, n)) {
-        n = kept(codes, n, list);
-        let next = step(list, here, io, place);
-        here = next.s;
-        list = next.list;
-        turns -= 1;
-    }
-    Opened {
-        s: with_got(here, n),
-        list,
-    }
-}
-
-// After a list of which the program was to hold so many items at most.
-fn counted(s: State, most: u64) -> State {
-    if s.got > most {
-        return wrong(s, TOO_MANY_ITEMS);
-    }
-    s
-}
-
-// The next word of the line as a list of at most so many items, whose codes are put into a lent buffer.
-fn read_at_most(s: State, io: &mut Streams, place: Place, codes: &mut Codes, most: u64) -> State {
-    let opened = open_list(s, io);
-    let here = opened.s;
-    let list = opened.list;
-    let room = std::num::wrapping_add_u64(most, 1);
-    let filled = fill(list, here, io, place, codes, room, false);
-    let after = filled.s;
-    counted(after, most)
-}
-
-// The same with as many items as the buffer holds.
-pub fn read_items(s: State, io: &mut Streams, place: Place, codes: &mut Codes) -> State {
-    read_at_most(s, io, place, codes, 65537)
-}
-
-// The last word of the line as such a list.
-pub fn last_items(s: State, io: &mut Streams, place: Place, codes: &mut Codes) -> State {
-    no_more_words(read_items(s, io, place, codes), io)
-}
-
-// The last word of the line as a log's records, at most so many.
-pub fn last_records(s: State, io: &mut Streams, codes: &mut Codes, most: u64) -> State {
-    no_more_words(read_at_most(s, io, Place::Record, codes, most), io)
 }

@@ -1,29 +1,10 @@
 // Numbers: decimal ones of each kind, records of three, and the bit patterns of floats.
-ghost use Rattle.std.specs.Prelude.{◌≤◌};
-
-use crate::problems::{BAD_NUMBER, wrong};
-use crate::streams::{State, Streams, advance};
-use crate::words::{ends_word, next_word, no_more_words};
+use crate::problems::Problem;
+use crate::streams::{Bench, Now};
 use decimal::{Natural, Sum, grown, is_digit, signed, unsigned};
 
-const DIGIT_0: u16 = b'0' as u16;
-
-const DIGIT_9: u16 = b'9' as u16;
-
-const UPPER_A: u16 = b'A' as u16;
-
-const UPPER_F: u16 = b'F' as u16;
-
-const LOWER_A: u16 = b'a' as u16;
-
-const LOWER_F: u16 = b'f' as u16;
-
-pub const MINUS: u16 = b'-' as u16;
-
-pub const COLON: u16 = b':' as u16;
-
 // What a number is for, which says how it is written and how large it may be.
-#[derive(Clone, Copy)]
+#[derive(Clone, Copy, PartialEq, Eq)]
 pub enum Place {
     // a position, a density, a table entry, an 8.8 number: 16 bits
     Short,
@@ -39,205 +20,163 @@ pub enum Place {
     Double,
 }
 
-// A number that was read up to the first byte that is none of its digits.
-#[derive(Clone, Copy)]
-pub struct ReadSum {
-    pub s: State,
-    pub sum: Sum,
-}
+impl Place {
+    // The largest code of a place.
+    pub(crate) fn largest(self) -> u64 {
+        match self {
+            Place::Short => 65535,
+            Place::Raw => 0xffff_ffff,
+            Place::Any | Place::Record | Place::Single | Place::Double => u64::MAX,
+        }
+    }
 
-#[derive(Clone, Copy)]
-struct ReadNatural {
-    s: State,
-    n: Natural,
-}
-
-// The value of a hexadecimal digit, and 16 for any other byte.
-pub fn hex_value(now: u16) -> u64
-    ensures { result ≤ 16 }
-{
-    match now {
-        DIGIT_0..=DIGIT_9 => (now - DIGIT_0) as u64,
-        UPPER_A..=UPPER_F => (now - UPPER_A + 10) as u64,
-        LOWER_A..=LOWER_F => (now - LOWER_A + 10) as u64,
-        _ => 16,
+    pub(crate) fn is_decimal(self) -> bool {
+        match self {
+            Place::Short | Place::Any | Place::Raw => true,
+            Place::Record | Place::Single | Place::Double => false,
+        }
     }
 }
 
-fn wrong_sum(s: State) -> ReadSum {
-    ReadSum { s, sum: Sum::Wrong }
-}
-
-// The decimal digits from here on, as many as there are.
-fn read_natural(s: State, io: &mut Streams) -> ReadNatural {
-    let mut here = s;
-    let mut n = decimal::none();
-    let mut turns = u64::MAX;
-    while turns > 0 && is_digit(here.now) {
-        n = grown(n, here.now);
-        here = advance(here, io);
-        turns -= 1;
-    }
-    ReadNatural { s: here, n }
-}
-
-fn read_unsigned(s: State, io: &mut Streams, largest: u64) -> ReadSum {
-    let read = read_natural(s, io);
-    let after = read.s;
-    let n = read.n;
-    ReadSum {
-        s: after,
-        sum: unsigned(n, largest),
+// The value of a hexadecimal digit.
+fn hex_value(byte: u8) -> Option<u8> {
+    match byte {
+        b'0'..=b'9' => Some(byte - b'0'),
+        b'A'..=b'F' => Some(byte - b'A' + 10),
+        b'a'..=b'f' => Some(byte - b'a' + 10),
+        _ => None,
     }
 }
 
-fn read_signed(s: State, io: &mut Streams, minus: bool) -> ReadSum {
-    let read = read_natural(s, io);
-    let after = read.s;
-    let n = read.n;
-    ReadSum {
-        s: after,
-        sum: signed(n, minus),
+fn suiting(code: Option<u64>) -> Sum {
+    match code {
+        Some(value) => Sum::Suits(value),
+        None => Sum::Wrong,
     }
 }
 
-// A record so far, and below it a number of 16 bits more.
-fn joined(upper: u64, read: ReadSum) -> ReadSum {
-    let after = read.s;
-    let sum = read.sum;
-    match sum {
-        Sum::Suits(lower) => ReadSum {
-            s: after,
-            sum: Sum::Suits((upper << 16) | lower),
-        },
-        Sum::OneAbove | Sum::Wrong => wrong_sum(after),
+impl Bench {
+    // The decimal digit that is looked at, if it is one.
+    fn digit(&self) -> Option<u16> {
+        match self.now {
+            Now::Byte(byte) if is_digit(u16::from(byte)) => Some(u16::from(byte)),
+            _ => None,
+        }
     }
-}
 
-// The same, where that number is to be read, after a colon.
-fn read_after_colon(s: State, io: &mut Streams, upper: u64) -> ReadSum {
-    if s.now != COLON {
-        return wrong_sum(s);
+    // The value of the hexadecimal digit that is looked at, if it is one.
+    pub(crate) fn hex_digit(&self) -> Option<u8> {
+        match self.now {
+            Now::Byte(byte) => hex_value(byte),
+            Now::LineEnd | Now::InputEnd => None,
+        }
     }
-    joined(upper, read_unsigned(advance(s, io), io, 65535))
-}
 
-// The next number of a record, unless something was wrong before it.
-fn read_next(read: ReadSum, io: &mut Streams) -> ReadSum {
-    let after = read.s;
-    let sum = read.sum;
-    match sum {
-        Sum::Suits(upper) => read_after_colon(after, io, upper),
-        Sum::OneAbove | Sum::Wrong => wrong_sum(after),
+    // The decimal digits from here on, as many as there are.
+    fn read_natural(&mut self) -> Natural {
+        let mut n = decimal::none();
+        for _ in 0..u64::MAX {
+            let Some(digit) = self.digit() else {
+                break;
+            };
+            n = grown(n, digit);
+            self.advance();
+        }
+        n
     }
-}
 
-fn read_record(s: State, io: &mut Streams) -> ReadSum {
-    let index = read_unsigned(s, io, 65535);
-    let old = read_next(index, io);
-    read_next(old, io)
-}
-
-fn exactly(value: u64, digits: u64, width: u64) -> Sum {
-    if digits == width {
-        return Sum::Suits(value);
+    fn read_unsigned(&mut self, largest: u64) -> Sum {
+        let n = self.read_natural();
+        unsigned(n, largest)
     }
-    Sum::Wrong
-}
 
-// A float's bit pattern, of exactly `width` hexadecimal digits.
-fn read_pattern(s: State, io: &mut Streams, width: u64) -> ReadSum {
-    let mut here = s;
-    let mut value: u64 = 0;
-    let mut digits: u64 = 0;
-    while digits < u64::MAX && hex_value(here.now) < 16 {
-        value = (value << 4) | hex_value(here.now);
-        here = advance(here, io);
-        digits += 1;
+    fn read_signed(&mut self, minus: bool) -> Sum {
+        let n = self.read_natural();
+        signed(n, minus)
     }
-    ReadSum {
-        s: here,
-        sum: exactly(value, digits, width),
+
+    // One of a record's numbers.
+    fn read_part(&mut self) -> Option<u64> {
+        match self.read_unsigned(65535) {
+            Sum::Suits(part) => Some(part),
+            Sum::OneAbove | Sum::Wrong => None,
+        }
     }
-}
 
-// The largest code of a place.
-pub fn largest(place: Place) -> u64 {
-    match place {
-        Place::Short => 65535,
-        Place::Raw => 0xffff_ffff,
-        Place::Any | Place::Record | Place::Single | Place::Double => u64::MAX,
+    // The same, after a colon.
+    fn read_next_part(&mut self) -> Option<u64> {
+        if !self.is_at(b':') {
+            return None;
+        }
+        self.advance();
+        self.read_part()
     }
-}
 
-pub fn is_decimal(place: Place) -> bool {
-    match place {
-        Place::Short | Place::Any | Place::Raw => true,
-        Place::Record | Place::Single | Place::Double => false,
+    fn read_record(&mut self) -> Option<u64> {
+        let index = self.read_part()?;
+        let old = self.read_next_part()?;
+        let new = self.read_next_part()?;
+        Some((index << 32) | (old << 16) | new)
     }
-}
 
-// A number as its place has it.
-fn read_positive(s: State, io: &mut Streams, place: Place) -> ReadSum {
-    match place {
-        Place::Short | Place::Any => read_unsigned(s, io, largest(place)),
-        Place::Raw => read_signed(s, io, false),
-        Place::Record => read_record(s, io),
-        Place::Single => read_pattern(s, io, 8),
-        Place::Double => read_pattern(s, io, 16),
+    // A float's bit pattern, of exactly `width` hexadecimal digits.
+    fn read_pattern(&mut self, width: u64) -> Option<u64> {
+        let mut value: u64 = 0;
+        let mut digits: u64 = 0;
+        for _ in 0..u64::MAX {
+            let Some(digit) = self.hex_digit() else {
+                break;
+            };
+            value = (value << 4) | u64::from(digit);
+            digits = digits.saturating_add(1);
+            self.advance();
+        }
+        (digits == width).then_some(value)
     }
-}
 
-// The same where a minus sign has been read, which only a raw number begins with.
-pub fn read_negative(s: State, io: &mut Streams, place: Place) -> ReadSum {
-    match place {
-        Place::Raw => read_signed(s, io, true),
-        Place::Short | Place::Any | Place::Record | Place::Single | Place::Double => wrong_sum(s),
+    // A number as its place has it.
+    fn read_positive(&mut self, place: Place) -> Sum {
+        match place {
+            Place::Short | Place::Any => self.read_unsigned(place.largest()),
+            Place::Raw => self.read_signed(false),
+            Place::Record => suiting(self.read_record()),
+            Place::Single => suiting(self.read_pattern(8)),
+            Place::Double => suiting(self.read_pattern(16)),
+        }
     }
-}
 
-pub fn read_sum(s: State, io: &mut Streams, place: Place) -> ReadSum {
-    if s.now == MINUS {
-        return read_negative(advance(s, io), io, place);
+    // The same where a minus sign has been read, which only a raw number begins with.
+    pub(crate) fn read_negative(&mut self, place: Place) -> Sum {
+        if place == Place::Raw {
+            return self.read_signed(true);
+        }
+        Sum::Wrong
     }
-    read_positive(s, io, place)
-}
 
-// The word is not as its place asks.
-pub fn bad(s: State) -> State {
-    wrong(s, BAD_NUMBER)
-}
-
-// A word counts only where it is whole.
-fn whole(s: State, value: u64) -> State {
-    if !ends_word(s.now) {
-        return bad(s);
+    // A number up to the first byte that is none of its digits.
+    pub(crate) fn read_sum(&mut self, place: Place) -> Sum {
+        if self.is_at(b'-') {
+            self.advance();
+            return self.read_negative(place);
+        }
+        self.read_positive(place)
     }
-    with_got(s, value)
-}
 
-pub fn with_got(s: State, got: u64) -> State {
-    let mut after = s;
-    after.got = got;
-    after
-}
-
-fn judged(s: State, sum: Sum) -> State {
-    match sum {
-        Sum::Suits(value) => whole(s, value),
-        Sum::OneAbove | Sum::Wrong => bad(s),
+    // The next word of the line as a number. A word counts only where it is whole.
+    pub fn read_number(&mut self, place: Place) -> Result<u64, Problem> {
+        self.next_word()?;
+        let sum = self.read_sum(place);
+        self.checked()?;
+        match sum {
+            Sum::Suits(code) if self.ends_word() => Ok(code),
+            _ => Err(Problem::BadNumber),
+        }
     }
-}
 
-// The next word of the line as a number.
-pub fn read_number(s: State, io: &mut Streams, place: Place) -> State {
-    let read = read_sum(next_word(s, io), io, place);
-    let after = read.s;
-    let sum = read.sum;
-    judged(after, sum)
-}
-
-// The last word of the line as a number.
-pub fn last_number(s: State, io: &mut Streams, place: Place) -> State {
-    no_more_words(read_number(s, io, place), io)
+    // The last word of the line as a number.
+    pub fn last_number(&mut self, place: Place) -> Result<u64, Problem> {
+        let code = self.read_number(place)?;
+        self.no_more_words()?;
+        Ok(code)
+    }
 }

@@ -5,19 +5,11 @@ mod files;
 mod pictures;
 mod tags;
 
-use groat_lines::{Codes, State, Streams, Tag};
+use groat_answers::Kept;
+use groat_lines::{Bench, Problem};
 
 // Answers the line where it names one of these requests. What it gives the table or the tag is kept.
-pub fn answer(
-    s: State,
-    io: &mut Streams,
-    codes: &mut Codes,
-    table: &mut [u16; 65537],
-    tag: &mut Tag,
-) -> State {
-    let here = tags::answer(s, io, codes, table, tag);
-    if here.met {
-        return here;
-    }
-    pictures::answer(here, io, table)
+pub fn answer(bench: &mut Bench, kept: &mut Kept) -> Result<(), Problem> {
+    tags::answer(bench, kept)?;
+    pictures::answer(bench, kept)
 }

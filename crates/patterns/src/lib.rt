@@ -1,4 +1,5 @@
 // Floats by their bit patterns. Rattle makes no float of a NaN's pattern, so one NaN stands for all of them.
+// A function for each width: a trait over f32 and f64, which std has not, would be longer than both.
 #![tactic(auto)]
 
 ghost use Rattle.std.specs.Prelude.{◌≡◌};

@@ -9,7 +9,7 @@ ghost use Rattle.std.specs.Prelude.{◌≡◌, ◌-◌, ◌≤◌, ◌<◌};
 ghost use Rattle.placing.specs.Falls.{Tells};
 ghost use Rattle.picture.specs.Plot.{star_row, right_of, Passed, Marked};
 
-use crate::text::put;
+use crate::text::Writer;
 use placing::inside::{drive_of, reach_over};
 use placing::place::{column_of, density_at, row_of};
 use table::{Density, Drive};
@@ -24,7 +24,7 @@ pub const LINES: usize = ROWS + 2;
 // What stands left of the columns.
 const MARGIN: usize = 9;
 
-// The row of a column's star.
+// The row of a column's star. `column < 64` stays a precondition: a type would hold the number of one `for` alone.
 fn star_row(table: &[u16], column: usize) -> usize
     requires { column < 64 }
     ensures { result ≡ star_row table.now column }
@@ -36,20 +36,14 @@ fn star_row(table: &[u16], column: usize) -> usize
 fn left_of(column: usize) -> usize
     ensures { result ≡ column - 1 }
 {
-    if column == 0 {
-        return 0;
-    }
-    column - 1
+    column.saturating_sub(1)
 }
 
 fn right_of(column: usize) -> usize
     requires { column < 64 }
     ensures { (result ≡ right_of column) × (result < 64) }
 {
-    if column == 63 {
-        return 63;
-    }
-    column + 1
+    (column + 1).min(63)
 }
 
 // Whether the curve passes a row in a column, which goes up to the next one's first drive; the last one goes to 65535.
@@ -104,27 +98,28 @@ fn margin(row: usize) -> [u8; 9] {
     *b"        |"
 }
 
-// A line ends at its last mark.
-fn end_after(end: usize, at: usize, b: u8) -> usize
-    requires at_inside { at < 128 }
+// A line ends after its last mark.
+fn end_after(end: usize, after: usize, b: u8) -> usize
+    requires after_inside { (1 ≤ after) × (after ≤ 128) }
     requires end_inside { (1 ≤ end) × (end ≤ 128) }
     ensures { (1 ≤ result) × (result ≤ 128) }
 {
     if b == b' ' {
         return end;
     }
-    at + 1
+    after
 }
 
 fn row_line(table: &[u16], row: usize, out: &mut [u8; 512]) -> usize
     ensures { (1 ≤ result) × (result ≤ 128) }
 {
-    let mut end = put(out, 0, &margin(row));
+    let mut w = Writer::new(out);
+    w.put(&margin(row));
+    let mut end = w.end;
     for column in 0..COLUMNS {
-        let at = MARGIN + column;
         let b = mark(table, column, row);
-        out[at] = b;
-        end = end_after(end, at, b);
+        w.put_byte(b);
+        end = end_after(end, w.end, b);
     }
     end
 }
@@ -133,14 +128,21 @@ fn row_line(table: &[u16], row: usize, out: &mut [u8; 512]) -> usize
 fn axis_line(out: &mut [u8; 512]) -> usize
     ensures { result ≡ 73 }
 {
-    let end = put(
-        out,
-        0,
-        b"        +----------------------------------------------------------------",
-    );
-    out[MARGIN + column_of(Drive(32768))] = b'+';
-    out[MARGIN + column_of(Drive(65535))] = b'+';
-    end
+    let mut axis = *b"        +----------------------------------------------------------------";
+    axis[MARGIN + column_of(Drive(32768))] = b'+';
+    axis[MARGIN + column_of(Drive(65535))] = b'+';
+    let mut w = Writer::new(out);
+    w.put(&axis);
+    w.end
+}
+
+// The drives that the scale names, each below its column.
+fn scale_line(out: &mut [u8; 512]) -> usize
+    ensures { (1 ≤ result) × (result ≤ 128) }
+{
+    let mut w = Writer::new(out);
+    w.put(b"         0             drive           32768                        65535");
+    w.end
 }
 
 pub fn line(table: &[u16], row: usize, out: &mut [u8; 512]) -> usize
@@ -153,10 +155,5 @@ pub fn line(table: &[u16], row: usize, out: &mut [u8; 512]) -> usize
     if row == ROWS {
         return axis_line(out);
     }
-    // the drives that the scale names, each below its column
-    put(
-        out,
-        0,
-        b"         0             drive           32768                        65535",
-    )
+    scale_line(out)
 }

@@ -13,7 +13,7 @@ ghost use Rattle.placing.specs.Falls.{Falls, Tells};
 ghost use Rattle.picture.specs.Svg.{rings_of, pieces_of, Filled};
 ghost use Rattle.picture.specs.Title.{is_shown};
 
-use crate::text::{put, put_escaped, put_number, put_with};
+use crate::text::Writer;
 use crate::title::is_shown;
 use curve::inside::ramp;
 use placing::inside::{Point, Reach, falls_over, point_at, reach_over};
@@ -59,13 +59,11 @@ const AXES: [u8; 160] = *b"<path class=\"axis\" d=\"M0,0V65535H65535\"/>\n\
 const LEGEND: [u8; 83] =
     *b"<text class=\"note\" x=\"0\" y=\"70700\" text-anchor=\"start\">thick: here it falls</text>\n";
 
+#[tactic(auto, unfolding(crate::specs::Svg::rings_of))]
 fn rings(entries: usize) -> usize
     ensures { (result ≡ rings_of entries) × (result ≤ 64) × (result ≤ entries) }
 {
-    if entries <= 64 {
-        return entries;
-    }
-    0
+    if entries <= 64 { entries } else { 0 }
 }
 
 pub fn pieces(entries: usize) -> usize
@@ -74,37 +72,38 @@ pub fn pieces(entries: usize) -> usize
     FIRST_RING + rings(entries) + 1
 }
 
-fn put_title(out: &mut [u8; 512], at: usize, title: &[u8]) -> usize
-    requires { (at ≤ 200) × (is_shown title.now ≡ true) }
-    ensures { (at ≤ result) × (result ≤ at + 300) }
+fn put_title(w: &mut Writer, title: &[u8])
+    requires { (w.old.end ≤ 200) × (is_shown title.now ≡ true) }
+    ensures { (w.old.end ≤ w.new.end) × (w.new.end ≤ w.old.end + 300) }
 {
-    put_escaped(out, at, title)
+    w.put_escaped(title);
 }
 
-// The file's opening tag, and its title: the caller's, or one that fits every curve.
-fn open(title: &[u8], out: &mut [u8; 512]) -> usize
-    ensures { Filled result }
+// The file's opening tag, and its title: the caller's, or one that fits every curve. Each piece asks for an empty
+// writer: a type for that would hold the writer alone.
+fn put_open(w: &mut Writer, title: &[u8])
+    requires { w.old.end ≡ 0 }
+    ensures { 1 ≤ w.new.end }
 {
-    let a = put(out, 0, &OPEN);
+    w.put(&OPEN);
     if !is_shown(title) {
-        return put(out, a, b"<title>Tone curve</title>\n");
+        w.put(b"<title>Tone curve</title>\n");
+        return;
     }
-    let b = put(out, a, b"<title>");
-    let c = put_title(out, b, title);
-    put(out, c, b"</title>\n")
+    w.put(b"<title>");
+    put_title(w, title);
+    w.put(b"</title>\n");
 }
 
-fn description(entries: usize, out: &mut [u8; 512]) -> usize
-    requires { entries ≤ 65536 }
-    ensures { Filled result }
+fn put_description(w: &mut Writer, entries: usize)
+    requires { (w.old.end ≡ 0) × (entries ≤ 65536) }
+    ensures { 1 ≤ w.new.end }
 {
-    let a = put_with(out, 0, b"<desc>Entries of the table: ", entries);
-    put(
-        out,
-        a,
+    w.put_with(b"<desc>Entries of the table: ", entries);
+    w.put(
         b". In the curve's line x is the drive, y is 65535 less the density. \
         Where the line is thick, the density falls as the drive rises.</desc>\n",
-    )
+    );
 }
 
 // How wide a letter may be drawn, in thirds of its size: most small ones take two, and no other byte of a character
@@ -124,8 +123,8 @@ fn title_width(title: &[u8]) -> usize
     requires { is_shown title.now ≡ true }
 {
     let mut n = 0;
-    for i in 0..title.len() {
-        n += letter_width(title[i]);
+    for b in title {
+        n += letter_width(*b);
     }
     n
 }
@@ -145,62 +144,62 @@ fn letter_size(width: usize) -> usize
 }
 
 // The title where it is drawn.
-fn put_heading(out: &mut [u8; 512], at: usize, title: &[u8]) -> usize
-    requires { (at ≤ 100) × (is_shown title.now ≡ true) }
-    ensures { Filled result }
+fn put_heading(w: &mut Writer, title: &[u8])
+    requires { (w.old.end ≤ 100) × (is_shown title.now ≡ true) }
+    ensures { 1 ≤ w.new.end }
 {
-    let a = put_with(
-        out,
-        at,
+    w.put_with(
         b"<text x=\"32768\" y=\"-2000\" text-anchor=\"middle\" style=\"font-size:",
         letter_size(title_width(title)),
     );
-    let b = put(out, a, b"px\">");
-    let c = put_title(out, b, title);
-    put(out, c, b"</text>\n")
+    w.put(b"px\">");
+    put_title(w, title);
+    w.put(b"</text>\n");
 }
 
 // The page, and the title on it.
-fn page(title: &[u8], out: &mut [u8; 512]) -> usize
-    ensures { Filled result }
+fn put_page(w: &mut Writer, title: &[u8])
+    requires { w.old.end ≡ 0 }
+    ensures { 1 ≤ w.new.end }
 {
-    let at = put(out, 0, &PAGE);
-    if !is_shown(title) {
-        return at;
+    w.put(&PAGE);
+    if is_shown(title) {
+        put_heading(w, title);
     }
-    put_heading(out, at, title)
 }
 
 // A line across the drawing at a drive, and the number below it.
-fn put_drive_tick(out: &mut [u8; 512], p: Drive) -> usize
-    ensures { result ≤ 150 }
+fn put_drive_tick(w: &mut Writer, p: Drive)
+    requires { w.old.end ≡ 0 }
+    ensures { w.new.end ≤ 150 }
 {
-    let a = put_with(out, 0, b"<path class=\"grid\" d=\"M", across(p));
-    let b = put_with(out, a, b",0V65535\"/>\n<text x=\"", across(p));
-    let c = put_with(out, b, b"\" y=\"68100\" text-anchor=\"middle\">", wide(p.0));
-    put(out, c, b"</text>\n")
+    w.put_with(b"<path class=\"grid\" d=\"M", across(p));
+    w.put_with(b",0V65535\"/>\n<text x=\"", across(p));
+    w.put_with(b"\" y=\"68100\" text-anchor=\"middle\">", wide(p.0));
+    w.put(b"</text>\n");
 }
 
 // The same at a density, with the number left of it.
-fn put_density_tick(out: &mut [u8; 512], at: usize, d: Density) -> usize
-    requires { at ≤ 150 }
-    ensures { Filled result }
+fn put_density_tick(w: &mut Writer, d: Density)
+    requires { w.old.end ≤ 150 }
+    ensures { 1 ≤ w.new.end }
 {
-    let a = put_with(out, at, b"<path class=\"grid\" d=\"M0,", down(d));
-    let b = put_with(out, a, b"H65535\"/>\n<text x=\"-1100\" y=\"", down(d));
-    let c = put_with(out, b, b"\" dy=\".35em\" text-anchor=\"end\">", wide(d.0));
-    put(out, c, b"</text>\n")
+    w.put_with(b"<path class=\"grid\" d=\"M0,", down(d));
+    w.put_with(b"H65535\"/>\n<text x=\"-1100\" y=\"", down(d));
+    w.put_with(b"\" dy=\".35em\" text-anchor=\"end\">", wide(d.0));
+    w.put(b"</text>\n");
 }
 
 // A number on both scales.
-fn tick(value: u16, out: &mut [u8; 512]) -> usize
-    ensures { Filled result }
+fn put_tick(w: &mut Writer, value: u16)
+    requires { w.old.end ≡ 0 }
+    ensures { 1 ≤ w.new.end }
 {
-    let at = put_drive_tick(out, Drive(value));
-    put_density_tick(out, at, Density(value))
+    put_drive_tick(w, Drive(value));
+    put_density_tick(w, Density(value));
 }
 
-// Whether a span falls.
+// Whether a span falls. `k < 1285` stays a precondition: a type would hold the number of one piece alone.
 fn span_falls(table: &[u16], k: usize) -> bool
     requires { k < 1285 }
     ensures { Tells result (Falls table.now (k * 51) (k * 51 + 51)) }
@@ -210,60 +209,59 @@ fn span_falls(table: &[u16], k: usize) -> bool
 }
 
 // The start of a line through spans that fall, or through spans that do not.
-fn put_line(out: &mut [u8; 512], at: usize, falls: bool) -> usize
-    requires { at ≤ 300 }
-    ensures { result ≡ at + 32 }
+fn put_line(w: &mut Writer, falls: bool)
+    requires { w.old.end ≤ 300 }
+    ensures { w.new.end ≡ w.old.end + 32 }
 {
     if falls {
-        return put(out, at, b"<polyline class=\"falls\" points=\"");
+        w.put(b"<polyline class=\"falls\" points=\"");
+        return;
     }
-    put(out, at, b"<polyline class=\"curve\" points=\"")
+    w.put(b"<polyline class=\"curve\" points=\"");
 }
 
 // The axes, how many entries the table has, and the start of the curve's first line.
-fn curve_open(table: &[u16], out: &mut [u8; 512]) -> usize
-    requires { length table.now ≤ 65536 }
-    ensures { Filled result }
+fn put_curve_open(w: &mut Writer, table: &[u16])
+    requires { (w.old.end ≡ 0) × (length table.now ≤ 65536) }
+    ensures { 1 ≤ w.new.end }
 {
-    let a = put(out, 0, &AXES);
-    let b = put_with(
-        out,
-        a,
+    w.put(&AXES);
+    w.put_with(
         b"<text x=\"65535\" y=\"70700\" text-anchor=\"end\">entries: ",
         table.len(),
     );
-    let c = put(out, b, b"</text>\n");
-    put_line(out, c, span_falls(table, 0))
+    w.put(b"</text>\n");
+    put_line(w, span_falls(table, 0));
 }
 
 // The head, with five numbers on both scales.
-fn head(table: &[u16], title: &[u8], k: usize, out: &mut [u8; 512]) -> usize
-    requires { length table.now ≤ 65536 }
-    ensures { Filled result }
+fn put_head(w: &mut Writer, table: &[u16], title: &[u8], k: usize)
+    requires { (w.old.end ≡ 0) × (length table.now ≤ 65536) }
+    ensures { 1 ≤ w.new.end }
 {
     match k {
-        0 => open(title, out),
-        1 => description(table.len(), out),
-        2 => put(out, 0, &STYLE),
-        3 => put(out, 0, &DARK_STYLE),
-        4 => page(title, out),
-        5 => tick(0, out),
-        6 => tick(16384, out),
-        7 => tick(32768, out),
-        8 => tick(49152, out),
-        9 => tick(65535, out),
-        _ => curve_open(table, out),
+        0 => put_open(w, title),
+        1 => put_description(w, table.len()),
+        2 => w.put(&STYLE),
+        3 => w.put(&DARK_STYLE),
+        4 => put_page(w, title),
+        5 => put_tick(w, 0),
+        6 => put_tick(w, 16384),
+        7 => put_tick(w, 32768),
+        8 => put_tick(w, 49152),
+        9 => put_tick(w, 65535),
+        _ => put_curve_open(w, table),
     }
 }
 
 // A point of the curve's line, after a blank or a new line.
-fn put_point(out: &mut [u8; 512], at: usize, before: u8, x: Point) -> usize
-    requires { at ≤ 500 }
-    ensures { (at < result) × (result ≤ at + 12) }
+fn put_point(w: &mut Writer, before: u8, x: Point)
+    requires { w.old.end ≤ 500 }
+    ensures { (w.old.end < w.new.end) × (w.new.end ≤ w.old.end + 12) }
 {
-    out[at] = before;
-    let a = put_number(out, at + 1, across(x.drive));
-    put_with(out, a, b",", down(x.density))
+    w.put_byte(before);
+    w.put_number(across(x.drive));
+    w.put_with(b",", down(x.density));
 }
 
 // Ten spans stand on a line of the file.
@@ -283,43 +281,29 @@ fn outside(d: Density, a: Density, b: Density) -> bool {
 }
 
 // A point within a span, where it is outside the densities of the span's ends.
-fn put_outside(out: &mut [u8; 512], at: usize, x: Point, first: Density, last: Density) -> usize
-    requires { at ≤ 500 }
-    ensures { (at ≤ result) × (result ≤ at + 12) }
+fn put_outside(w: &mut Writer, x: Point, first: Density, last: Density)
+    requires { w.old.end ≤ 500 }
+    ensures { (w.old.end ≤ w.new.end) × (w.new.end ≤ w.old.end + 12) }
 {
-    if !outside(x.density, first, last) {
-        return at;
+    if outside(x.density, first, last) {
+        put_point(w, b' ', x);
     }
-    put_point(out, at, b' ', x)
-}
-
-// Two points within a span.
-fn put_two(
-    out: &mut [u8; 512],
-    at: usize,
-    x: Point,
-    y: Point,
-    first: Density,
-    last: Density,
-) -> usize
-    requires { (1 ≤ at) × (at ≤ 60) }
-    ensures { Filled result }
-{
-    let a = put_outside(out, at, x, first, last);
-    put_outside(out, a, y, first, last)
 }
 
 // The lowest and the highest point of a span, the earlier one first.
-fn put_between(out: &mut [u8; 512], at: usize, r: Reach, first: Density, last: Density) -> usize
-    requires { (1 ≤ at) × (at ≤ 60) }
-    ensures { Filled result }
+fn put_between(w: &mut Writer, r: Reach, first: Density, last: Density)
+    requires { (1 ≤ w.old.end) × (w.old.end ≤ 60) }
+    ensures { 1 ≤ w.new.end }
 {
     let valley = r.valley;
     let peak = r.peak;
     if valley.drive.0 < peak.drive.0 {
-        return put_two(out, at, valley, peak, first, last);
+        put_outside(w, valley, first, last);
+        put_outside(w, peak, first, last);
+        return;
     }
-    put_two(out, at, peak, valley, first, last)
+    put_outside(w, peak, first, last);
+    put_outside(w, valley, first, last);
 }
 
 // Whether span k is drawn otherwise than the one before it. The first span has its line from the head.
@@ -336,44 +320,39 @@ fn turns(table: &[u16], k: usize, falls: bool) -> bool
 }
 
 // Where span k is drawn otherwise, the line ends at the span's first point, and another begins there.
-fn put_turn(out: &mut [u8; 512], at: usize, table: &[u16], k: usize, first: Point) -> usize
-    requires { (at ≤ 12) × (k < 1285) }
-    ensures { (at ≤ result) × (result ≤ at + 48) }
+fn put_turn(w: &mut Writer, table: &[u16], k: usize, first: Point)
+    requires { (w.old.end ≤ 12) × (k < 1285) }
+    ensures { (w.old.end ≤ w.new.end) × (w.new.end ≤ w.old.end + 48) }
 {
     let falls = span_falls(table, k);
     if !turns(table, k, falls) {
-        return at;
+        return;
     }
-    let a = put(out, at, b"\"/>\n");
-    let b = put_line(out, a, falls);
-    put_point(out, b, b'\n', first)
+    w.put(b"\"/>\n");
+    put_line(w, falls);
+    put_point(w, b'\n', first);
 }
 
 // A span's first point, and those between its ends.
-fn span(table: &[u16], k: usize, out: &mut [u8; 512]) -> usize
-    requires { k < 1285 }
-    ensures { Filled result }
+fn put_span(w: &mut Writer, table: &[u16], k: usize)
+    requires { (w.old.end ≡ 0) × (k < 1285) }
+    ensures { 1 ≤ w.new.end }
 {
     let from = k * SPAN;
     let to = from + SPAN;
     let first = point_at(table, from);
     let last = point_at(table, to);
-    let at = put_point(out, 0, before_span(k), first);
-    let then = put_turn(out, at, table, k, first);
-    put_between(
-        out,
-        then,
-        reach_over(table, from, to),
-        first.density,
-        last.density,
-    )
+    put_point(w, before_span(k), first);
+    put_turn(w, table, k, first);
+    put_between(w, reach_over(table, from, to), first.density, last.density);
 }
 
-fn last_point(table: &[u16], out: &mut [u8; 512]) -> usize
-    ensures { Filled result }
+fn put_last_point(w: &mut Writer, table: &[u16])
+    requires { w.old.end ≡ 0 }
+    ensures { 1 ≤ w.new.end }
 {
-    let at = put_point(out, 0, b' ', point_at(table, 65535));
-    put(out, at, b"\"/>\n")
+    put_point(w, b' ', point_at(table, 65535));
+    w.put(b"\"/>\n");
 }
 
 // The drive nearest to entry i, which is what the straight curve has there.
@@ -386,43 +365,56 @@ fn entry_drive(entries: usize, i: usize) -> Drive
     Drive(ramp(entries, i))
 }
 
-fn ring(table: &[u16], i: usize, out: &mut [u8; 512]) -> usize
-    requires { i < length table.now }
-    ensures { Filled result }
+fn put_ring(w: &mut Writer, table: &[u16], i: usize)
+    requires { (w.old.end ≡ 0) × (i < length table.now) }
+    ensures { 1 ≤ w.new.end }
 {
     let p = entry_drive(table.len(), i);
     let d = Density(table[i]);
-    let a = put_with(out, 0, b"<circle class=\"entry\" cx=\"", across(p));
-    let b = put_with(out, a, b"\" cy=\"", down(d));
-    put(out, b, b"\" r=\"500\"/>\n")
+    w.put_with(b"<circle class=\"entry\" cx=\"", across(p));
+    w.put_with(b"\" cy=\"", down(d));
+    w.put(b"\" r=\"500\"/>\n");
 }
 
 // The end, and what a thick line says where there is one.
-fn close(table: &[u16], out: &mut [u8; 512]) -> usize
-    ensures { Filled result }
+fn put_close(w: &mut Writer, table: &[u16])
+    requires { w.old.end ≡ 0 }
+    ensures { 1 ≤ w.new.end }
 {
-    if !falls_over(table, 0, 65535) {
-        return put(out, 0, b"</svg>\n");
+    if falls_over(table, 0, 65535) {
+        w.put(&LEGEND);
     }
-    let a = put(out, 0, &LEGEND);
-    put(out, a, b"</svg>\n")
+    w.put(b"</svg>\n");
+}
+
+fn put_piece(w: &mut Writer, table: &[u16], title: &[u8], k: usize)
+    requires { (w.old.end ≡ 0) × (length table.now ≤ 65536) }
+    ensures { 1 ≤ w.new.end }
+{
+    if k < FIRST_SPAN {
+        put_head(w, table, title, k);
+        return;
+    }
+    if k < LAST_POINT {
+        put_span(w, table, k - FIRST_SPAN);
+        return;
+    }
+    if k == LAST_POINT {
+        put_last_point(w, table);
+        return;
+    }
+    if k - FIRST_RING < rings(table.len()) {
+        put_ring(w, table, k - FIRST_RING);
+        return;
+    }
+    put_close(w, table);
 }
 
 pub fn piece(table: &[u16], title: &[u8], k: usize, out: &mut [u8; 512]) -> usize
     requires { length table.now ≤ 65536 }
     ensures { Filled result }
 {
-    if k < FIRST_SPAN {
-        return head(table, title, k, out);
-    }
-    if k < LAST_POINT {
-        return span(table, k - FIRST_SPAN, out);
-    }
-    if k == LAST_POINT {
-        return last_point(table, out);
-    }
-    if k - FIRST_RING < rings(table.len()) {
-        return ring(table, k - FIRST_RING, out);
-    }
-    close(table, out)
+    let mut w = Writer::new(out);
+    put_piece(&mut w, table, title, k);
+    w.end
 }

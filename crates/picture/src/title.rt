@@ -1,5 +1,6 @@
 // Which bytes are a title: well-formed UTF-8 of at most 60 characters, all of which may stand in XML. Table 3-7 of the
 // Unicode Standard says which bytes may follow which.
+// Not std's from_utf8: specs/Title.antt defines is_title by this walk, and an escaped title's room is proved along it.
 ghost use Rattle.std.specs.Prelude.{◌≡◌, ◌≤◌};
 ghost use Rattle.picture.specs.Title.{lowest_after, highest_after, more_after, tails, after_lead, after_first};
 ghost use Rattle.picture.specs.Title.{after_tail, after_edge, after, is_whole, well_formed, begins, characters_in};
@@ -22,47 +23,42 @@ enum Next {
 }
 
 // The lowest second byte after a first one.
+#[tactic(auto, unfolding(crate::specs::Title::lowest_after))]
 fn lowest(lead: u8) -> u8
     ensures { result ≡ lowest_after lead }
 {
-    if lead == 0xC2 {
-        return 0xA0;
+    match lead {
+        0xC2 | 0xE0 => 0xA0,
+        0xF0 => 0x90,
+        _ => 0x80,
     }
-    if lead == 0xE0 {
-        return 0xA0;
-    }
-    if lead == 0xF0 {
-        return 0x90;
-    }
-    0x80
 }
 
 // The highest.
+#[tactic(auto, unfolding(crate::specs::Title::highest_after))]
 fn highest(lead: u8) -> u8
     ensures { result ≡ highest_after lead }
 {
-    if lead == 0xED {
-        return 0x9F;
+    match lead {
+        0xED => 0x9F,
+        0xF4 => 0x8F,
+        _ => 0xBF,
     }
-    if lead == 0xF4 {
-        return 0x8F;
-    }
-    0xBF
 }
 
 // How many bytes follow the second.
+#[tactic(auto, unfolding(crate::specs::Title::more_after))]
 fn more(lead: u8) -> u8
     ensures { result ≡ more_after lead }
 {
-    if lead < 0xE0 {
-        return 0;
+    match lead {
+        0..=0xDF => 0,
+        0xE0..=0xEF => 1,
+        _ => 2,
     }
-    if lead < 0xF0 {
-        return 1;
-    }
-    2
 }
 
+#[tactic(auto, unfolding(crate::specs::Title::after_lead))]
 fn after_lead(lead: u8) -> Next
     ensures { result ≡ after_lead lead }
 {
@@ -72,22 +68,15 @@ fn after_lead(lead: u8) -> Next
     Next::Tail(lowest(lead), highest(lead), more(lead))
 }
 
+#[tactic(auto, unfolding(crate::specs::Title::after_first))]
 fn after_first(b: u8) -> Next
     ensures { result ≡ after_first b }
 {
-    if b < 0x20 {
-        return Next::Nothing;
+    match b {
+        0x20..=0x7E => Next::First,
+        0xC2..=0xF4 => after_lead(b),
+        _ => Next::Nothing,
     }
-    if b < 0x7F {
-        return Next::First;
-    }
-    if b < 0xC2 {
-        return Next::Nothing;
-    }
-    if b <= 0xF4 {
-        return after_lead(b);
-    }
-    Next::Nothing
 }
 
 // The end of a character after n bytes more.
@@ -100,18 +89,17 @@ fn tails(n: u8) -> Next
     Next::Tail(0x80, 0xBF, n - 1)
 }
 
+#[tactic(auto, unfolding(crate::specs::Title::after_tail))]
 fn after_tail(low: u8, high: u8, n: u8, b: u8) -> Next
     ensures { result ≡ after_tail low high n b }
 {
-    if b < low {
-        return Next::Nothing;
+    if low <= b && b <= high {
+        return tails(n);
     }
-    if high < b {
-        return Next::Nothing;
-    }
-    tails(n)
+    Next::Nothing
 }
 
+#[tactic(auto, unfolding(crate::specs::Title::after_edge))]
 fn after_edge(b: u8) -> Next
     ensures { result ≡ after_edge b }
 {
@@ -135,43 +123,36 @@ fn after(s: Next, b: u8) -> Next
 fn is_whole(s: Next) -> bool
     ensures { result ≡ is_whole s }
 {
-    match s {
-        Next::First => true,
-        Next::Tail(_, _, _) => false,
-        Next::Edge => false,
-        Next::Nothing => false,
-    }
+    matches!(s, Next::First)
 }
 
 fn well_formed(text: &[u8]) -> bool
     ensures { result ≡ well_formed text.now }
 {
     let mut s = Next::First;
-    for i in 0..text.len() {
-        s = after(s, text[i]);
+    for b in text {
+        s = after(s, *b);
     }
     is_whole(s)
 }
 
 // 1 for a byte that begins a character, 0 for any other: a number, so that the count needs no branch.
+#[tactic(auto, unfolding(crate::specs::Title::begins))]
 fn begins(b: u8) -> usize
     ensures { (result ≡ begins b) × (result ≤ 1) }
 {
-    if b < 0x80 {
-        return 1;
+    match b {
+        0x80..=0xBF => 0,
+        _ => 1,
     }
-    if b < 0xC0 {
-        return 0;
-    }
-    1
 }
 
 fn characters(text: &[u8]) -> usize
     ensures { result ≡ characters_in text.now }
 {
     let mut n = 0;
-    for i in 0..text.len() {
-        n += begins(text[i]);
+    for b in text {
+        n += begins(*b);
     }
     n
 }
@@ -179,18 +160,12 @@ fn characters(text: &[u8]) -> usize
 pub fn suits(text: &[u8]) -> bool
     ensures { result ≡ is_title text.now }
 {
-    if characters(text) <= MOST {
-        return well_formed(text);
-    }
-    false
+    characters(text) <= MOST && well_formed(text)
 }
 
 // Whether a title is drawn: one of no characters is not.
 pub fn is_shown(title: &[u8]) -> bool
     ensures { result ≡ is_shown title.now }
 {
-    if title.len() == 0 {
-        return false;
-    }
-    suits(title)
+    !title.is_empty() && suits(title)
 }

@@ -6,11 +6,11 @@ use mathlib.Core.List.{List}
 use Prim.Native.Nat.{ℕ, ◌≤◌, ◌<◌}
 use native.Mathlib.Omega.{arith}
 use lib.ListN.{length}
+use Rattle.std.specs.Prelude.{Result, Ok, Err}
 use Rattle.table.specs.Sizes.{sized}
 use Rattle.table.specs.Answers.{value_of_looked}
 use Rattle.table.specs.declared.Drive.{Drive}
 use Rattle.table.specs.declared.Density.{Density}
-use Rattle.table.specs.declared.Looked.{Looked}
 use Rattle.table.specs.declared.Refusal.{Refusal}
 use Rattle.lookup.specs.Lookup.{looked_up}
 use Rattle.lookup.specs.Promises.{LookupPromise}
@@ -22,13 +22,14 @@ unfolding density_at
 density_is t p h = simp h
 
 -- whether it is granted or refused
-pub density_granted : {t : List ℕ} {p : Drive} {r : Looked} (d : Density) → LookupPromise t p r → r ≡ Looked.At d
+pub density_granted : {t : List ℕ} {p : Drive} {r : Result Density Refusal} (d : Density) → LookupPromise t p r
+    → r ≡ Ok d
     → d.0 ≡ density_at t p.0
 unfolding density_at
 density_granted d a e = ap value_of_looked (sym e) ∙ a.value
 
-pub density_refused : {t : List ℕ} {p : Drive} {r : Looked} (why : Refusal) → LookupPromise t p r
-    → r ≡ Looked.Refused why → 0 ≡ density_at t p.0
+pub density_refused : {t : List ℕ} {p : Drive} {r : Result Density Refusal} (why : Refusal) → LookupPromise t p r
+    → r ≡ Err why → 0 ≡ density_at t p.0
 unfolding density_at
 density_refused why a e = ap value_of_looked (sym e) ∙ a.value
 

@@ -58,10 +58,8 @@ pub fn reach_over(table: &[u16], first: usize, last: usize) -> Reach
 {
     let mut valley = point_at(table, first);
     let mut peak = valley;
-    let mut p = first;
-    while p < last {
-        p += 1;
-        let here = point_at(table, p);
+    for before in first..last {
+        let here = point_at(table, before + 1);
         valley = replaced(valley, here, here.density.0 < valley.density.0);
         peak = replaced(peak, here, peak.density.0 < here.density.0);
     }
@@ -83,6 +81,7 @@ pub fn falls_over(table: &[u16], first: usize, last: usize) -> bool
     requires { last ≤ 65535 }
     ensures { Tells result (Falls table.now first last) }
 {
+    // Not `any`: from the calls that its contract tells of to Falls the proof did not close.
     for p in first..last {
         if falls_at(table, p) {
             return true;

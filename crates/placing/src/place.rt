@@ -5,15 +5,15 @@ ghost use Rattle.placing.specs.Place.{density_at, row_of, column_of, down_of};
 
 use lookup::lut_interp_linear16;
 use table::inside::wide;
-use table::{Density, Drive, Looked};
+use table::{Density, Drive};
 
 // The curve's density at a drive, by the promised lookup.
 pub fn density_at(table: &[u16], p: Drive) -> Density
     ensures { result.0 ≡ density_at table.now p.0 }
 {
     match lut_interp_linear16(table, p) {
-        Looked::At(d) => d,
-        Looked::Refused(_) => Density(0),
+        Ok(d) => d,
+        Err(_) => Density(0),
     }
 }
 

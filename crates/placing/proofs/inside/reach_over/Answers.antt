@@ -1,14 +1,14 @@
--- `reach_over` meets its contract: the invariant is that both points are the extremes so far, up to p. Assumes nothing.
+-- `reach_over` meets its contract: the invariant is that both points are the extremes so far. Assumes nothing.
 use borrow.Author.Tests.{ltb-true, ltb-false}
 use native.Mathlib.Omega.{arith}
 use Rattle.placing.specs.Reach.{AtMost, AtLeast}
 use Rattle.placing.proofs.Widening.{widen}
 use Rattle.placing.proofs.inside.reach_over.Goals as goal
 
-pub loop-p-preserved : goal.loop-p-preserved
-loop-p-preserved c =
+pub loop-before-preserved : goal.loop-before-preserved
+loop-before-preserved c =
     let here = c.point_at-here.ensures in
-    let turn = c.loop-p.invariant in (
+    let turn = c.loop-before.invariant in (
       omega arith,
       omega arith,
       widen AtMost (λ d. omega arith) _ _ c.replaced-valley.ensures turn.0 turn.2 here

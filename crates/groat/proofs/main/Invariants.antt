@@ -1,5 +1,0 @@
--- `main` is safe and ends. Assumes nothing.
-use Rattle.groat.proofs.main.Given as goal
-
-abbrev pub decreases-loop-turns : goal.decreases-loop-turns
-decreases-loop-turns l = l.turns

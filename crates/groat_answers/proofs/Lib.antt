@@ -1,0 +1,2 @@
+-- Lemmas on what is kept.
+mod Held

@@ -1,0 +1,2 @@
+-- What the contracts of what is kept say.
+pub mod Filling

@@ -1,6 +1,0 @@
--- `put_records` is safe and ends. Assumes nothing.
-use Rattle.std.proofs.Common.{◌-◌}
-use Rattle.groat_curves.proofs.logs.put_records.Given as goal
-
-abbrev pub decreases-loop-i : goal.decreases-loop-i
-decreases-loop-i l = 63 - l.i

@@ -1,6 +1,0 @@
--- `copy` is safe and ends. Assumes nothing.
-use Rattle.std.proofs.Common.{◌-◌}
-use Rattle.groat_curves.proofs.tables.copy.Given as goal
-
-abbrev pub decreases-loop-i : goal.decreases-loop-i
-decreases-loop-i l = 65537 - l.i

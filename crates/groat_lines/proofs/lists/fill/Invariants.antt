@@ -1,5 +1,0 @@
--- `fill` is safe and ends. Assumes nothing.
-use Rattle.groat_lines.proofs.lists.fill.Given as goal
-
-abbrev pub decreases-loop-turns : goal.decreases-loop-turns
-decreases-loop-turns l = l.turns

@@ -1,9 +1,0 @@
--- `put_hex` is safe and ends. Assumes nothing.
-use Rattle.std.proofs.Common.{◌≤◌}
-use Rattle.groat_lines.proofs.streams.put_hex.Given as goal
-
-abbrev pub invariant-loop-left : goal.invariant-loop-left
-invariant-loop-left l = l.left ≤ 16
-
-abbrev pub decreases-loop-left : goal.decreases-loop-left
-decreases-loop-left l = l.left

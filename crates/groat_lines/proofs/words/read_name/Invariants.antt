@@ -1,5 +1,0 @@
--- `read_name` is safe and ends. Assumes nothing.
-use Rattle.groat_lines.proofs.words.read_name.Given as goal
-
-abbrev pub decreases-loop-turns : goal.decreases-loop-turns
-decreases-loop-turns l = l.turns
