@@ -1,15 +1,34 @@
-// The inverse's search, and all its steps in the Rust's order. Not public: `search` has a precondition.
-ghost use Rattle.std.specs.Prelude.{◌≡◌};
+// The inverse's search, and all its steps in the Rust's order. Not public: `inverse` has preconditions, that the
+// table's length is tested and that `ends` are the table's.
+ghost use Rattle.std.specs.Prelude.{◌≡◌, true, length};
+ghost use Rattle.table.specs.Sizes.{sized};
 ghost use Rattle.inverse_start.specs.Start.{leading_zeros, trailing_tops};
 ghost use Rattle.inverse.specs.Inverse.{searched, inverted};
-ghost use Rattle.inverse.specs.Inside.{Ready};
+ghost use Rattle.inverse.specs.Inside.{EndsOf, Ready};
 
 use inverse_start::inside::{first_left, first_right, leading_zeros, trailing_tops, zero_at_once};
 use inverse_tail::inside::tail;
 use lookup::inside::lookup;
 use table::inside::SizedTable;
 
-// A table with the runs at its ends counted: document 01's z, the leading 0 entries, and w, the trailing 65535 entries.
+// The runs at a table's ends: document 01's z, the leading 0 entries, and w, the trailing 65535 entries.
+#[derive(Clone, Copy)]
+pub struct Ends {
+    pub z: usize,
+    pub w: usize,
+}
+
+// Those of a table of any length.
+pub fn ends_of(table: &[u16]) -> Ends
+    ensures { EndsOf table.now result }
+{
+    Ends {
+        z: leading_zeros(table),
+        w: trailing_tops(table),
+    }
+}
+
+// A table with its ends counted.
 #[derive(Clone, Copy)]
 pub struct Counted<'a> {
     pub table: SizedTable<'a>,
@@ -35,7 +54,7 @@ fn search(table: SizedTable, v: u16, left: usize, right: usize) -> Result<u16, u
         }
         x = (l + r) / 2;
         let p = (x - 1) as u16;
-        let y = lookup(table, p);
+        let y = lookup(table.entries, p);
         if y == v {
             break Ok(p);
         }
@@ -53,10 +72,11 @@ impl<'a> Counted<'a> {
     pub fn of(table: SizedTable<'a>) -> Self
         ensures { result.table.entries.now ≡ table.entry.entries.now }
     {
+        let ends = ends_of(table.entries);
         Counted {
             table,
-            z: leading_zeros(table.entries),
-            w: trailing_tops(table.entries),
+            z: ends.z,
+            w: ends.w,
         }
     }
 
@@ -75,7 +95,21 @@ impl<'a> Counted<'a> {
         }
         match search(self.table, v, l, r) {
             Ok(p) => p,
-            Err(x) => tail(self.table, x, v),
+            Err(x) => tail(self.table.entries, x, v),
         }
     }
+}
+
+// The same, for whoever has tested the table's length and counted its ends.
+pub fn inverse(table: &[u16], ends: Ends, v: u16) -> u16
+    requires table_sized { sized (length table.now) ≡ true }
+    requires ends_found { EndsOf table.now ends }
+    ensures { result ≡ inverted table.now v }
+{
+    let counted = Counted {
+        table: SizedTable { entries: table },
+        z: ends.z,
+        w: ends.w,
+    };
+    counted.inverse(v)
 }

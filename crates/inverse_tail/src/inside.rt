@@ -1,11 +1,11 @@
-// The f64 steps. Not public: they have preconditions, as that x is not 0.
-ghost use Rattle.std.specs.Prelude.{◌≡◌, ◌<◌, length};
+// The f64 steps. Not public: they have preconditions, that the table's length is tested and that x is not 0.
+ghost use Rattle.std.specs.Prelude.{◌≡◌, true, ◌<◌, length};
+ghost use Rattle.table.specs.Sizes.{sized};
 ghost use Rattle.inverse_tail.specs.Tail.{rounded, between, tail};
 ghost use Rattle.inverse_tail.specs.Inside.{CellsFit};
 
 use rounding::abs_f64;
 use rounding::inside::{ceil_f64, floor_f64};
-use table::inside::SizedTable;
 
 // The position that the f64 steps come to, as 16 bits. The tests stand so that a NaN would answer 0, as the Rust's cast
 // has it, with no test of its own.
@@ -44,13 +44,14 @@ fn between(table: &[u16], x: u16, v: u16, cell0: usize, cell1: usize) -> u16
 }
 
 // The f64 steps, after a search that probed x last and met no hit.
-pub fn tail(table: SizedTable, x: u16, v: u16) -> u16
-    requires { 0 < x }
-    ensures { result ≡ tail table.entry.entries.now x v }
+pub fn tail(table: &[u16], x: u16, v: u16) -> u16
+    requires table_sized { sized (length table.now) ≡ true }
+    requires above_zero { 0 < x }
+    ensures { result ≡ tail table.now x v }
 {
     let p = x - 1;
-    let place = (table.last() as f64) * ((p as f64) / 65535.0);
+    let place = ((table.len() - 1) as f64) * ((p as f64) / 65535.0);
     let cell0 = floor_f64(place);
     let cell1 = ceil_f64(place);
-    between(table.entries, x, v, cell0, cell1)
+    between(table, x, v, cell0, cell1)
 }

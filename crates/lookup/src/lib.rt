@@ -13,5 +13,5 @@ pub fn lut_interp_linear16(table: &[u16], p: Drive) -> Result<Density, Refusal>
     ensures { LookupPromise table.now p result }
 {
     let table = SizedTable::of(table)?;
-    Ok(Density(inside::lookup(table, p.0)))
+    Ok(Density(inside::lookup(table.entries, p.0)))
 }

@@ -15,7 +15,7 @@ fn fill_by_lookup(table: SizedTable, positions: &[u16], out: &mut [u16])
     requires { length out.old ≡ length positions.now }
     ensures { out.new ≡ row_of table.entry.entries.now positions.now }
 {
-    fill(out, |i| lookup(table, positions[i]));
+    fill(out, |i| lookup(table.entries, positions[i]));
 }
 
 // The same for a table of 65,536 entries, where the lookup at a position is that entry: one load for each.
@@ -60,7 +60,7 @@ fn fill_baked(table: SizedTable, out: &mut [u16])
     requires { length out.old ≡ 65536 }
     ensures { out.new ≡ baked_of table.entry.entries.now }
 {
-    fill(out, |i| lookup(table, i as u16));
+    fill(out, |i| lookup(table.entries, i as u16));
 }
 
 // Fills `out` with the table's answers at every position. The 16-bit lookup in it answers as in the table, and a row of

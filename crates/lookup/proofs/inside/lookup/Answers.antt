@@ -1,25 +1,12 @@
--- `lookup` meets its contract: a position is within the steps of the table, and halves of its steps tell where they
--- land. Assumes nothing.
-use mathlib.Core.Path.{◌∙◌, refl}
-use Prim.Native.Nat.{◌*◌, ◌≤◌}
-use native.Mathlib.Nat.{mul-le-mul_right}
+-- `lookup` meets its contract: a sized table has a last index. Assumes nothing.
 use native.Mathlib.Omega.{arith}
-use Rattle.lookup.proofs.Halves.{after_le, quotient_read}
-use Rattle.lookup.proofs.LookupLaws.{looked_up_read}
+use Rattle.table.proofs.Sizes.{within_low, within_high}
 use Rattle.lookup.proofs.inside.lookup.Goals as goal
 
-pub entry-requires : goal.entry-requires
-entry-requires c =
-    let top = c.last-top.result in
-    let inside : c.wide.result * top ≤ top * 65535 = omega (arith, mul-le-mul_right top c.wide.ensures.1) in
-    omega (arith, c.next_if-upper.ensures, after_le top _ c.last-top.ensures.1 inside, c.last-top.ensures.0)
+pub overflow_sub-table : goal.overflow_sub-table
+overflow_sub-table c =
+    within_low 1 65536 _ c.requires
 
-pub returns : goal.returns
-returns c =
-    let top = c.last-top.result in
-    let inside : c.wide.result * top ≤ top * 65535 = omega (arith, mul-le-mul_right top c.wide.ensures.1) in
-    let small : c.wide.result * top ≤ 65535 * 65535 = omega (arith, inside) in
-    let sum_le : c.mix-sum.result ≤ 65535 * 4294967295 = omega (arith, small, c.mix-sum.ensures.1) in
-    quotient_read _ _ c.last-top.ensures.1 inside _ c.next_if-upper.ensures
-    c.entry.ensures.0 c.entry-2.ensures.0 c.mix-sum.ensures.0 sum_le
-    ∙ looked_up_read c.args.table.entries.now _ _ c.last-top.ensures.0 c.wide.ensures.0 refl
+pub lookup_to-requires : goal.lookup_to-requires
+lookup_to-requires c =
+    omega (arith, within_low 1 65536 _ c.requires, within_high 1 65536 _ c.requires)

@@ -62,9 +62,13 @@ tail-requires c =
       left = c.first_left-l.ensures;
       right = c.first_right-r.ensures;
     } in
-    missed_low begun c.args.self.now.table.tested c.args.v c.zero_at_once.ensures c.if-zero_at_once.false
-    c.in-Err.x c.if-l-r.false
-    (sym c.in-Err.ensures)
+    record {
+      table_sized = c.args.self.now.table.tested;
+      above_zero =
+          missed_low begun c.args.self.now.table.tested c.args.v c.zero_at_once.ensures c.if-zero_at_once.false
+          c.in-Err.x c.if-l-r.false
+          (sym c.in-Err.ensures);
+    }
 
 pub returns-in-Ok : goal.returns-in-Ok
 returns-in-Ok c =
