@@ -9,8 +9,8 @@ use native.Mathlib.Omega.{arith}
 use lib.ListN.{get_or}
 use Rattle.table.specs.Order.{last_entry}
 use Rattle.table.proofs.Choice.{below?}
-use Rattle.least.specs.Inside.{FirstReaching, Cell}
-use Rattle.least.proofs.Tables.{Searchable, searchable_last, searchable_rises}
+use Rattle.least.specs.Inside.{Searchable, FirstReaching, Cell}
+use Rattle.least.proofs.Tables.{searchable_last, searchable_rises}
 
 pub record Bracket (t : List ℕ) (top v low high : ℕ) : Type 0 where
   pub ordered : low ≤ high

@@ -14,9 +14,9 @@ use Rattle.table.proofs.Quotient.{ceil_le_iff, parted}
 use Rattle.lookup.specs.Lookup.{looked_up}
 use Rattle.lookup.proofs.LookupLaws.{lookup_reaches, passed_le_lookup, lookup_le_coming}
 use Rattle.least.specs.Least.{least_of}
-use Rattle.least.specs.Inside.{Cell}
+use Rattle.least.specs.Inside.{Searchable, Cell}
 use Rattle.least.proofs.LeastLaws.{least_only}
-use Rattle.least.proofs.Tables.{Searchable, table_order, table_rises}
+use Rattle.least.proofs.Tables.{table_order, table_rises}
 
 -- entries a and b, k of 65535 steps from a to b: weighed so, they reach v exactly if k times their distance covers the
 -- way from a to v

@@ -19,14 +19,9 @@ use Rattle.table.proofs.Order.{test_fact}
 use Rattle.table.proofs.Choice.{below?}
 use Rattle.lookup.specs.Lookup.{looked_up}
 use Rattle.lookup.proofs.LookupLaws.{looked_up_rises, looked_up_first, looked_up_last}
-use Rattle.least.specs.Inside.{FirstReaching}
+use Rattle.least.specs.Inside.{Searchable, FirstReaching}
 use Rattle.least.specs.Least.{least_of, NeverFalls}
 use Rattle.least.proofs.LeastLaws.{least_at, least_inside}
-
--- a table that has passed the tests, and its last index
-pub record Searchable (t : List ℕ) (top : ℕ) : Type 0 where
-  pub passed : Passed t
-  pub last : length t ≡ top + 1
 
 -- by its last index: the last entry, how large the index is, and the order of the entries
 module _ {t : List ℕ} {top : ℕ} (s : Searchable t top) where
@@ -63,6 +58,9 @@ partition_first {t} {v} {i} s b p r =
     record { inside = inside; before = before; here = ltb-false _ _ (p.1 i 0 (le_refl i) inside) }
 
 module _ {t : List ℕ} (s : Passed t) where
+  pub by_last : Searchable t (length t - 1)
+  by_last = record { passed = s; last = omega (arith, within_low 1 65536 (length t) s.size) }
+
   pub table_order : Nondecreasing t
   table_order = test_fact t s.order
 

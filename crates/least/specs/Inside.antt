@@ -1,5 +1,11 @@
 -- The preconditions of the inner functions of this crate and of `least_row`. Assumes nothing.
-use Rattle.std.specs.Prelude.{ℕ, ◌+◌, ◌≤◌, ◌<◌, List, length, get_or}
+use Rattle.std.specs.Prelude.{ℕ, ◌+◌, ◌≤◌, ◌<◌, ◌≡◌, List, length, get_or}
+use Rattle.table.specs.Order.{Passed}
+
+-- a table that has passed the tests, and its last index
+pub record Searchable (t : List ℕ) (top : ℕ) : Type 0 where
+  pub passed : Passed t
+  pub last : length t ≡ top + 1
 
 -- entry i is the first that is not below v
 pub record FirstReaching (t : List ℕ) (v i : ℕ) : Type 0 where

@@ -1,5 +1,5 @@
 // A table that has passed its tests, and the search for a least input in it. Shared with `least_row`; not public, for
-// two of the searches have preconditions.
+// all searches but one have preconditions.
 ghost use Rattle.std.specs.Prelude.{◌≡◌, ◌≤◌, ◌+◌, true, length, IfOk};
 ghost use Rattle.table.specs.Answers.{number_of_answer};
 ghost use Rattle.table.specs.Order.{nondecreasing, last_entry};
@@ -7,7 +7,7 @@ ghost use Rattle.table.specs.Refusals.{number_in};
 ghost use Rattle.table.specs.Sizes.{sized};
 ghost use Rattle.curve.specs.Promises.{sitting_on, accept_verdict};
 ghost use Rattle.lookup.specs.Lookup.{looked_up};
-ghost use Rattle.least.specs.Inside.{FirstReaching, Cell};
+ghost use Rattle.least.specs.Inside.{Searchable, FirstReaching, Cell};
 ghost use Rattle.least.specs.Least.{least_of};
 
 use curve::accept;
@@ -18,8 +18,8 @@ use table::inside::{div_ceil, entry, wide};
 #[derive(Clone, Copy)]
 pub struct PassedTable<'a> {
     pub table: &'a [u16],
-    ghost size: { sized (length table.now) ≡ true },
-    ghost order: { nondecreasing table.now ≡ true },
+    pub ghost size: { sized (length table.now) ≡ true },
+    pub ghost order: { nondecreasing table.now ≡ true },
 }
 
 impl<'a> PassedTable<'a> {
@@ -85,4 +85,29 @@ impl<'a> PassedTable<'a> {
     {
         self.least_at(v, self.first_reaching(v))
     }
+}
+
+// The three searches for a caller that has tested the table by itself, and knows its last index. Each answers as the
+// method of its name does.
+pub fn first_reaching(table: &[u16], top: usize, v: u16) -> usize
+    requires { Searchable table.now top }
+    ensures { v ≤ last_entry table.now → FirstReaching table.now v result }
+{
+    PassedTable { table }.first_reaching(v)
+}
+
+pub fn least_at(table: &[u16], top: usize, v: u16, next: usize) -> usize
+    requires searchable { Searchable table.now top }
+    requires first_reaching { FirstReaching table.now v next }
+    ensures { (result ≡ least_of (looked_up table.now) v) × (result ≤ 65535) }
+{
+    PassedTable { table }.least_at(v, next)
+}
+
+pub fn least(table: &[u16], top: usize, v: u16) -> usize
+    requires searchable { Searchable table.now top }
+    requires reached { v ≤ last_entry table.now }
+    ensures { (result ≡ least_of (looked_up table.now) v) × (result ≤ 65535) }
+{
+    PassedTable { table }.least(v)
 }

@@ -15,9 +15,9 @@ use Rattle.table.specs.Order.{last_entry}
 use Rattle.table.proofs.Choice.{below?}
 use Rattle.table.proofs.Fill.{length_tabulated, get_or_tabulated}
 use Rattle.table.proofs.Fill.{Filling, filling_start, filling_more, filling_again, filling_done}
-use Rattle.least.specs.Inside.{FirstReaching}
+use Rattle.least.specs.Inside.{Searchable, FirstReaching}
 use Rattle.least.proofs.Bracket.{Bracket, bracket_start, bracket_half, bracket_end}
-use Rattle.least.proofs.Tables.{Searchable, searchable_few}
+use Rattle.least.proofs.Tables.{searchable_few}
 use Rattle.least_row.specs.Promises.{least_row_at, least_row_of}
 
 -- a step of the search for v: `half` entries past `low` where the last of them is below v, else `low`

@@ -31,7 +31,7 @@ fn row_position(table: PassedTable, v: u16) -> u32
     row_position_at(table, v, table.first_reaching(v))
 }
 
-// The same for each value, four at a time while there are four. By an index: the edits row_fifth_place_left_out and
+// The same for each value, four at a time while there are four. By an index: the edits row_rest_begins_one_late and
 // row_rest_not_written are slips of where the rest begins.
 fn fill_least_row(table: PassedTable, values: &[u16], out: &mut [u32])
     requires { length out.old ≡ length values.now }
