@@ -1,8 +1,11 @@
 -- Two lists are close where every pair of their zip is. Assumes nothing.
-use mathlib.Core.Path.{◌≡◌, ◌∙◌, refl, sym}
+use mathlib.Core.Path.{◌≡◌, ◌∙◌, refl, sym, ap}
 use mathlib.Core.Bool.{Bool, true, false, ◌&&◌}
 use mathlib.Core.List.{List, [], ◌∷◌}
+use Prim.Native.Nat.{ℕ, zero, suc, min}
+use native.Mathlib.Omega.{arith}
 use lib.Ieee.{Float}
+use lib.ListN.{length, take}
 use Rattle.std.specs.List.{list_all, zip}
 use mathlib.Core.Bool.{not}
 use Rattle.table.specs.Choice.{both}
@@ -23,3 +26,13 @@ close_pairs (s ∷ src) (d ∷ dst) =
       | false ↦ close_pairs src dst
       | true ↦ refl
     ]
+
+-- both lists cut to the shorter length
+pub close_cut : (n : ℕ) (src dst : List Float) → n ≡ min (length src) (length dst)
+    → close (take n src) (take n dst) ≡ close src dst
+close_cut zero [] dst e = refl
+close_cut (suc n) [] dst e = absurd (omega arith)
+close_cut zero (s ∷ src) [] e = refl
+close_cut (suc n) (s ∷ src) [] e = absurd (omega arith)
+close_cut zero (s ∷ src) (d ∷ dst) e = absurd (omega arith)
+close_cut (suc n) (s ∷ src) (d ∷ dst) e = ap (both (not (far s d))) (close_cut n src dst (omega arith))

@@ -118,9 +118,11 @@ fn none_far(src: &[f32], dst: &[f32]) -> bool
     src.iter().zip(dst).all(|(s, d)| !too_far(*s, *d))
 }
 
-// Whether two lists of parameters are close, over the shorter length. A NaN difference counts as close.
+// Whether two lists of parameters are close, over the shorter length. A NaN difference counts as close. Both are cut to
+// one length, so that each turn of the loop tests one end and not two.
 pub fn compare_parametric(src: &[f32], dst: &[f32]) -> bool
     ensures { ComparePromise src.now dst.now result }
 {
-    none_far(src, dst)
+    let n = src.len().min(dst.len());
+    none_far(&src[..n], &dst[..n])
 }
