@@ -2,10 +2,10 @@
 // and lists of numbers, floats and bytes.
 #![tactic(auto)]
 
-mod kept;
+pub mod inside;
 
 use groat_lines::Bench;
-pub use kept::{Kept, Log, Places, hold};
+pub use inside::{Kept, Log};
 use parametric::ParametricCurve;
 use table::{Density, Drive, Refusal, number};
 

@@ -1,7 +1,8 @@
 // The requests on floats and on parametric curves.
 use crate::questions::{ask_each, put_made};
 use crate::tables::keep_list;
-use groat_answers::{Kept, Places, put_unified, put_yes_no};
+use groat_answers::inside::Places;
+use groat_answers::{Kept, put_unified, put_yes_no};
 use groat_lines::{Bench, Codes, Place, Problem, double, raw, short, single};
 use interp::lut_interp_linear_float;
 use parametric::{ParametricCurve, compare_parametric};
@@ -95,7 +96,9 @@ fn param(bench: &mut Bench, codes: &mut Codes) -> Result<(), Problem> {
 fn compare(bench: &mut Bench, codes: &mut Codes) -> Result<(), Problem> {
     let mut one = Places::new([0.0; 65537]);
     let mut other = Places::new([0.0; 65537]);
-    one.hold(bench.read_items(Place::Single, codes)?, single);
+    let list = bench.read_items(Place::Single, codes);
+    bench.skip_spaces();
+    one.hold(list?, single);
     other.hold(bench.last_items(Place::Single, codes)?, single);
     put_yes_no(bench, compare_parametric(one.items(), other.items()));
     Ok(())

@@ -1,6 +1,7 @@
 // The requests on the table and the log of its nudges. Both are lent to each call as they are kept: a refused call
 // leaves them as they were.
-use groat_answers::{Kept, Log, hold, put_comma, put_done, put_none};
+use groat_answers::inside::hold;
+use groat_answers::{Kept, Log, put_comma, put_done, put_none};
 use groat_lines::{Bench, Place, Problem, first, short};
 use logged::{log_accept, log_nudge, log_start, take_back};
 use nudge_log::inside::{PLACES, index_of, new_of, old_of};
@@ -66,8 +67,8 @@ fn put_logged<F: FnOnce(&mut [u16], &mut [u64; PLACES], &mut usize) -> Result<()
 }
 
 fn nudge(bench: &mut Bench, kept: &mut Kept) -> Result<(), Problem> {
-    let i = bench.read_number(Place::Any)? as usize;
-    let v = Density(short(bench.last_number(Place::Short)?));
+    let (i, v) = bench.last_numbers(Place::Any, Place::Short)?;
+    let (i, v) = (i as usize, Density(short(v)));
     put_logged(bench, kept, |table, words, standing| {
         log_nudge(table, words, standing, i, v)
     });

@@ -21,8 +21,8 @@ pub fn answer(bench: &mut Bench, kept: &mut Kept) -> Result<(), Problem> {
         b"powertable P N: the gamma curve of exponent P/65536, with N entries, is the table",
         b"words: P and N below 2^64\nanswer: ok N\nrefused: 1, 18",
     )? {
-        let exponent = bench.read_number(Place::Any)?;
-        return fill_table(bench, kept, |out, n| power_table(out, n, exponent));
+        let (exponent, n) = bench.last_numbers(Place::Any, Place::Any)?;
+        return fill_table(bench, kept, n, |out, n| power_table(out, n, exponent));
     }
     if bench.at_row(
         b"tagpower K LIST: the gamma curve of a gamma tag's entry K at each drive",
@@ -37,8 +37,13 @@ pub fn answer(bench: &mut Bench, kept: &mut Kept) -> Result<(), Problem> {
         b"tagtable K N: the gamma curve of a gamma tag's entry K, with N entries, is the table",
         b"words: K 0 to 65535; N below 2^64\nanswer: ok N\nrefused: 1, 18",
     )? {
-        let gamma = short(bench.read_number(Place::Short)?);
-        return fill_table(bench, kept, |out, n| tag_power_table(out, n, gamma));
+        let (gamma, n) = bench.last_numbers(Place::Short, Place::Any)?;
+        return fill_table(
+            bench,
+            kept,
+            n,
+            |out, n| tag_power_table(out, n, short(gamma)),
+        );
     }
     Ok(())
 }

@@ -1,7 +1,8 @@
 // The requests that ask about the table, and `ask_each`, which answers any list of questions: each question goes to the
 // library's call, and the answers are written as the questions come in.
 use gamma::lut_interp_linear_gamma_impl;
-use groat_answers::{Item, Kept, Places, put_comma, put_item, put_list, put_none, put_refused};
+use groat_answers::inside::Places;
+use groat_answers::{Item, Kept, put_comma, put_item, put_list, put_none, put_refused};
 use groat_lines::{Bench, Codes, List, Place, Problem, double, first, short};
 use interp::lut_interp_linear;
 use inverse::lut_inverse_interp16;
@@ -61,8 +62,9 @@ pub fn answer(bench: &mut Bench, kept: &mut Kept) -> Result<(), Problem> {
         b"gamma N DEPTH LIST: the integer gamma lookup at each input",
         b"words: N, DEPTH and each of LIST below 2^64\nanswer: a list\nitems refused: 1, 12, 3",
     )? {
-        let inputs = bench.read_number(Place::Any)? as usize;
-        let depth = bench.read_number(Place::Any)? as usize;
+        let inputs = bench.read_number(Place::Any);
+        let depth = bench.read_number(Place::Any);
+        let (inputs, depth) = (inputs? as usize, depth? as usize);
         return ask_each(bench, codes, Place::Any, |code| {
             lut_interp_linear_gamma_impl(table, inputs, depth, code as usize)
         });
@@ -111,8 +113,9 @@ fn ask<F: Fn(&mut Bench, &[u64], usize)>(
 
 // What is wrong with a list or after it.
 fn ended(bench: &mut Bench, list: &List) -> Result<(), Problem> {
+    let end = bench.no_more_words();
     list.checked()?;
-    bench.no_more_words()
+    end
 }
 
 // What stands after so many answers: a comma before what is wrong, or `-` where there were no questions.

@@ -1,6 +1,7 @@
 // The requests that make, change and judge the table. The kept table itself is lent to each call: a refused one leaves
 // it as it was.
-use groat_answers::{Kept, Places, put_count, put_done, put_list, put_ok, put_refused, put_yes_no};
+use groat_answers::inside::Places;
+use groat_answers::{Kept, put_count, put_done, put_list, put_ok, put_refused, put_yes_no};
 use groat_lines::{Bench, Codes, Place, Problem, name_of, short};
 use monotonic::{Direction, Monotonic};
 use table::{Density, Refusal};
@@ -20,7 +21,8 @@ pub fn answer(bench: &mut Bench, kept: &mut Kept) -> Result<(), Problem> {
         b"start N: the straight curve of N entries is the table",
         b"words: N below 2^64\nanswer: ok N\nrefused: 1",
     )? {
-        return fill_table(bench, kept, |out, _| curve::start(out));
+        let n = bench.last_number(Place::Any)?;
+        return fill_table(bench, kept, n, |out, _| curve::start(out));
     }
     if bench.at_row(
         b"accept: whether the table may be worked on",
@@ -80,24 +82,27 @@ pub fn keep_list<T: Copy, F: Fn(u64) -> T>(
     Ok(())
 }
 
-// The rest of a line that says how many entries the table is to have, filled by a call. The call tests the number
-// first: every one from 65,537 on is refused alike, and any other has its places lent.
+// A table of n entries that a call fills is the table. The call tests the number first: every one from 65,537 on is
+// refused alike, and any other has its places lent.
 pub fn fill_table<F: FnOnce(&mut [u16], usize) -> Result<(), Refusal>>(
     bench: &mut Bench,
     kept: &mut Kept,
+    n: u64,
     fill: F,
 ) -> Result<(), Problem>
     requires { F.IsAlwaysCallable fill }
 {
-    let n = bench.last_number(Place::Any)? as usize;
+    let n = n as usize;
     put_count(bench, kept.table.make(n, |out| fill(out, n)));
     Ok(())
 }
 
 fn nudge(bench: &mut Bench, kept: &mut Kept) -> Result<(), Problem> {
-    let i = bench.read_number(Place::Any)? as usize;
-    let v = Density(short(bench.last_number(Place::Short)?));
-    put_done(bench, nudge::nudge(kept.table.items_mut(), i, v));
+    let (i, v) = bench.last_numbers(Place::Any, Place::Short)?;
+    put_done(
+        bench,
+        nudge::nudge(kept.table.items_mut(), i as usize, Density(short(v))),
+    );
     Ok(())
 }
 

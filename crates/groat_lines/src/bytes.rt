@@ -29,8 +29,8 @@ impl Bench {
         n
     }
 
-    // The last word of the line as bytes, which are put into a lent buffer. A minus sign has no digits after it.
-    pub fn last_bytes<'a>(&mut self, room: &'a mut Tag) -> Result<&'a [u8], Problem> {
+    // The next word of the line as bytes, which are put into a lent buffer. A minus sign has no digits after it.
+    fn read_bytes<'a>(&mut self, room: &'a mut Tag) -> Result<&'a [u8], Problem> {
         self.next_word()?;
         let mut digits = 0;
         if self.is_at(b'-') {
@@ -45,7 +45,12 @@ impl Bench {
         if !self.ends_word() || digits % 2 == 1 {
             return Err(Problem::BadNumber);
         }
-        self.no_more_words()?;
         Ok(first(room, digits / 2))
+    }
+
+    // The last word of the line as bytes.
+    pub fn last_bytes<'a>(&mut self, room: &'a mut Tag) -> Result<&'a [u8], Problem> {
+        let bytes = self.read_bytes(room);
+        self.last(bytes)
     }
 }

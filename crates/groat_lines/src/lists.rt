@@ -209,9 +209,8 @@ impl Bench {
         place: Place,
         room: &'a mut Codes,
     ) -> Result<&'a [u64], Problem> {
-        let items = self.read_items(place, room)?;
-        self.no_more_words()?;
-        Ok(items)
+        let items = self.read_items(place, room);
+        self.last(items)
     }
 
     // The last word of the line as a log's records, at most so many.
@@ -220,9 +219,8 @@ impl Bench {
         room: &'a mut Codes,
         most: usize,
     ) -> Result<&'a [u64], Problem> {
-        let records = self.read_at_most(Place::Record, room, most)?;
-        self.no_more_words()?;
-        Ok(records)
+        let records = self.read_at_most(Place::Record, room, most);
+        self.last(records)
     }
 }
 

@@ -1,4 +1,6 @@
 // Numbers: decimal ones of each kind, records of three, and the bit patterns of floats.
+ghost use Rattle.std.specs.Prelude.{◌≤◌, IfSome};
+
 use crate::problems::Problem;
 use crate::streams::{Bench, Now};
 use decimal::{Natural, Sum, grown, is_digit, signed, unsigned};
@@ -39,7 +41,9 @@ impl Place {
 }
 
 // The value of a hexadecimal digit.
-fn hex_value(byte: u8) -> Option<u8> {
+fn hex_value(byte: u8) -> Option<u8>
+    ensures { IfSome result (λ d. d ≤ 15) }
+{
     match byte {
         b'0'..=b'9' => Some(byte - b'0'),
         b'A'..=b'F' => Some(byte - b'A' + 10),
@@ -162,21 +166,30 @@ impl Bench {
         self.read_positive(place)
     }
 
-    // The next word of the line as a number. A word counts only where it is whole.
+    // The next word of the line as a number. A word counts only where it is whole. The spaces after it are read too,
+    // whatever it is: a line that waits for its next word is not answered before that.
     pub fn read_number(&mut self, place: Place) -> Result<u64, Problem> {
         self.next_word()?;
         let sum = self.read_sum(place);
         self.checked()?;
+        let whole = self.ends_word();
+        self.skip_spaces();
         match sum {
-            Sum::Suits(code) if self.ends_word() => Ok(code),
+            Sum::Suits(code) if whole => Ok(code),
             _ => Err(Problem::BadNumber),
         }
     }
 
     // The last word of the line as a number.
     pub fn last_number(&mut self, place: Place) -> Result<u64, Problem> {
-        let code = self.read_number(place)?;
-        self.no_more_words()?;
-        Ok(code)
+        let code = self.read_number(place);
+        self.last(code)
+    }
+
+    // The last two words of the line as numbers. The second is read after a first that is wrong too.
+    pub fn last_numbers(&mut self, first: Place, second: Place) -> Result<(u64, u64), Problem> {
+        let one = self.read_number(first);
+        let other = self.last_number(second);
+        Ok((one?, other?))
     }
 }

@@ -120,6 +120,15 @@ impl Bench {
         Err(Problem::TooManyWords)
     }
 
+    // A word that was read, where it is the last of the line. The line's end is looked for after a word that is wrong
+    // too, so that as much is read before any answer; what is wrong with the word comes first.
+    pub(crate) fn last<T: Copy>(&mut self, word: Result<T, Problem>) -> Result<T, Problem> {
+        let end = self.no_more_words();
+        let read = word?;
+        end?;
+        Ok(read)
+    }
+
     // At the end of the line, the rest of which is passed over.
     pub fn pass_line(&mut self) {
         for _ in 0..u64::MAX {
@@ -155,9 +164,8 @@ impl Bench {
 
     // The last word of the line as a name.
     pub fn last_name(&mut self) -> Result<Option<u64>, Problem> {
-        let name = self.read_name()?;
-        self.no_more_words()?;
-        Ok(name)
+        let name = self.read_name();
+        self.last(name)
     }
 
     // Puts the word that begins here into a lent buffer after `before` bytes, and gives how many bytes there are.
@@ -183,9 +191,8 @@ impl Bench {
 
     // The last word of the line as a path.
     pub fn last_path<'a>(&mut self, room: &'a mut Path) -> Result<&'a [u8], Problem> {
-        let path = self.read_path(room)?;
-        self.no_more_words()?;
-        Ok(path)
+        let path = self.read_path(room);
+        self.last(path)
     }
 
     // All further words of the line, with a blank between each two, put into a lent buffer. There may be none.

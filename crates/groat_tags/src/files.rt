@@ -55,15 +55,21 @@ fn open(host: HostRuntime, path: &[u8]) -> Result<File, Problem> {
     File::open(&host, text_of(path)?).map_err(|_| Problem::CannotOpen)
 }
 
-// `load PATH`.
-pub fn load(bench: &mut Bench, kept: &mut Kept) -> Result<(), Problem> {
-    let mut room = [0; 4096];
-    let path = bench.last_path(&mut room)?;
-    let mut file = open(bench.host(), path)?;
+// Keeps the bytes of a file. The buffer is this function's first local: where a `?` stands before a large one, it is
+// cleared twice.
+fn load_file(bench: &mut Bench, kept: &mut Kept, mut file: File) -> Result<(), Problem> {
     let mut spare = [0; 131200];
     let bytes = read_all(&mut file, &mut spare)?;
     hold(bench, kept, bytes);
     Ok(())
+}
+
+// `load PATH`.
+pub fn load(bench: &mut Bench, kept: &mut Kept) -> Result<(), Problem> {
+    let mut room = [0; 4096];
+    let path = bench.last_path(&mut room)?;
+    let file = open(bench.host(), path)?;
+    load_file(bench, kept, file)
 }
 
 // A path up to its last slash.

@@ -1,6 +1,6 @@
 use Rattle.std.proofs.Common.{drop, ◌≡◌, take, length, ◌≤◌}
 use Rattle.std.specs.List.{AllZip}
-use Rattle.groat_answers.proofs.kept.hold.Given as goal
+use Rattle.groat_answers.proofs.inside.hold.Given as goal
 
 -- as many places as items were passed hold what these stand for, and the others are as they were
 abbrev pub invariant-loop-i : goal.invariant-loop-i

@@ -1,6 +1,6 @@
 use Rattle.groat_answers.proofs.Held.{held_more, rest_less}
 use Rattle.std.proofs.Common.{rules}
-use Rattle.groat_answers.proofs.kept.hold.Goals as goal
+use Rattle.groat_answers.proofs.inside.hold.Goals as goal
 
 pub loop-i-preserved : goal.loop-i-preserved
 loop-i-preserved g c =

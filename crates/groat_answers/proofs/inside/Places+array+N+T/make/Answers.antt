@@ -1,5 +1,5 @@
 use Rattle.std.proofs.lemmas.Result.{err_from_is_err_and}
-use Rattle.groat_answers.proofs.kept.Places+array+N+T.make.Goals as goal
+use Rattle.groat_answers.proofs.inside.Places+array+N+T.make.Goals as goal
 
 pub returns-in_err-fill_first-clause-filled : goal.returns-in_err-fill_first-clause-filled
 returns-in_err-fill_first-clause-filled g c =

@@ -1,6 +1,6 @@
 use Rattle.std.proofs.Common.{refl, ap, ◌++◌}
 use Rattle.std.proofs.lemmas.List.{take_min, drop_min}
-use Rattle.groat_answers.proofs.kept.fill_first.Goals as goal
+use Rattle.groat_answers.proofs.inside.fill_first.Goals as goal
 
 pub returns : goal.returns
 returns g c = (
