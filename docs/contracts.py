@@ -98,13 +98,19 @@ def closing(source, at):
 BETWEEN = r"(?:[^{;[]|\[[^\]]*\])*?"
 
 
+def type_of(head):
+    """The type that an `impl` is for, by the text after that word; if it is one of Rust's own, as u16, the trait."""
+    trait, _, own = re.sub(r"^<.*?>(?=\s*\w)", "", head).partition(" for ")
+    return re.search(r"[A-Z]\w*", f"{own} {trait}")[0]
+
+
 @of_file
 def functions(path):
     """Each function of a file: the modules and the type that it stands in, its contract, and who can call it."""
     source, listed = bare(path), []
     files = path.split("/src/")[1][: -len(".rt")].split("/")
-    heads = re.finditer(r"\b(?:mod\s+(\w+)\s*|impl\b[^{;]*?([A-Z]\w*)[^{;]*)\{", source)
-    blocks = [(found.end(), closing(source, found.end() - 1), found[1] or found[2]) for found in heads]
+    heads = re.finditer(r"\b(?:mod\s+(\w+)\s*|impl\b((?:[^{;[]|\[[^\]]*\])*))\{", source)
+    blocks = [(found.end(), closing(source, found.end() - 1), found[1] or type_of(found[2])) for found in heads]
     for found in re.finditer(r"\bfn\s+(\w+)", source):
         # Whatever stands after the item before it is the function's own: attributes, `pub`, `extern "C"`.
         begun = max(source.rfind(sign, 0, found.start()) for sign in "{};") + 1

@@ -235,13 +235,16 @@ def touched(parts, span):
 
 @cache
 def names_used(crate):
-    """What each function, constant and type of a crate calls or names, through whatever others of the crate."""
+    """What each function, constant and type of a crate calls or names, through whatever others of the crate. A call of
+    a method counts where the crate has such a method: many of std's have a name that a function here has too."""
     paths = sorted(glob(f"crates/{crate}/src/**/*.rt", recursive=True))
+    methods = {one.name for path in paths for one in functions(path) if re.search(r"\([^(,:]*\bself\b", one.signature)}
     uses = {}
     for path in paths:
         for name, begin, end in parts_of(path)[0]:
-            words = re.findall(r"(?<!\.)\b([a-z]\w*)\(|\b([A-Z]\w*)", bare(path)[begin:end])
-            uses.setdefault(name, {name}).update(word for pair in words for word in pair if word)
+            words = re.findall(r"(\.?)\b(?:([a-z]\w*)\(|([A-Z]\w*))", bare(path)[begin:end])
+            called = {a or b for dot, a, b in words if not (dot and a) or a in methods}
+            uses.setdefault(name, {name}).update(called)
     for _ in uses:
         uses = {name: used.union(*(uses.get(other, ()) for other in used)) for name, used in uses.items()}
     return uses
