@@ -166,8 +166,8 @@ impl Bench {
         self.read_positive(place)
     }
 
-    // The next word of the line as a number. A word counts only where it is whole. The spaces after it are read too,
-    // whatever it is: a line that waits for its next word is not answered before that.
+    // The next word of the line as a number. A word counts only where it is whole. The blanks after it are read too,
+    // also after a wrong word: no line is answered while its next word is still to come.
     pub fn read_number(&mut self, place: Place) -> Result<u64, Problem> {
         self.next_word()?;
         let sum = self.read_sum(place);

@@ -120,8 +120,8 @@ impl Bench {
         Err(Problem::TooManyWords)
     }
 
-    // A word that was read, where it is the last of the line. The line's end is looked for after a word that is wrong
-    // too, so that as much is read before any answer; what is wrong with the word comes first.
+    // A word that was read, where it is the last of the line. After a wrong word too the blanks are read up to the next
+    // byte, before the line is answered; what is wrong with the word comes first.
     pub(crate) fn last<T: Copy>(&mut self, word: Result<T, Problem>) -> Result<T, Problem> {
         let end = self.no_more_words();
         let read = word?;
