@@ -18,7 +18,7 @@ pub struct Ends {
     pub w: usize,
 }
 
-// Those of a table of any length.
+// Those of a table of any length, counted once however many values are asked of it. The Rust counts them for each.
 pub fn ends_of(table: &[u16]) -> Ends
     ensures { EndsOf table.now result }
 {

@@ -43,12 +43,12 @@ pub fn weighted(table: &[u16], value: usize, cap: usize) -> usize
     )
 }
 
-// The 16-bit lookup in a table whose last index is `top`, so that a row of lookups works it out once. It makes
-// 65535 · 65537 steps from each entry to the next, and that is 2^32 - 1: so of a 64-bit number of steps the upper half
-// is the cell, the index of an entry that they pass, and both halves added are the steps past it. Steps that end on an
-// entry other than the first are counted from the one before it. So the upper entry is always the next, but in a table
-// of one entry. The sum is 65537 times document 01's, and with 65537 more its upper half is the answer. The weights are
-// worked out in 32 bits, and before the entries are read: that takes the fewest instructions.
+// The 16-bit lookup in a table whose last index is `top`, for whoever has worked that out. It makes 65535 · 65537 steps
+// from each entry to the next, and that is 2^32 - 1: so of a 64-bit number of steps the upper half is the cell, the
+// index of an entry that they pass, and both halves added are the steps past it. Steps that end on an entry other than
+// the first are counted from the one before it. So the upper entry is always the next, but in a table of one entry. The
+// sum is 65537 times document 01's, and with 65537 more its upper half is the answer. The weights are worked out in 32
+// bits, and before the entries are read: that takes the fewest instructions.
 pub fn lookup_to(table: &[u16], top: usize, p: u16) -> u16
     requires { (length table.now ≡ top + 1) × (top ≤ 65535) }
     ensures { result ≡ looked_up table.now p }
